@@ -1,4 +1,6 @@
 -- The laws of the conventions' numbers: a word's bounds, and that codes and conventions go back and forth. Assumes nothing.
+use Rattle.base_conventions.specs.declared.UnknownConvention.{UnknownConvention}
+use Rattle.std.proofs.Common.{Ok, Err, Result}
 use Prim.Native.Nat.{ℕ, ◌≤◌, ◌<◌}
 use mathlib.Core.Path.{◌≡◌, refl}
 use mathlib.Core.Bool.{Bool, true, false}
@@ -7,7 +9,6 @@ use lib.Dec.{eqb}
 use borrow.Author.Tests.{eqb-true}
 use Rattle.base_words.specs.Basics.{pick}
 use Rattle.base_conventions.specs.declared.Convention.{Convention}
-use Rattle.base_conventions.specs.declared.ConventionCode.{ConventionCode}
 use Rattle.base_conventions.specs.Numbers.{word_bytes, code_of, convention_code}
 
 pub word-bounds : (c : Convention) → (4 ≤ word_bytes c) × (word_bytes c ≤ 8)
@@ -24,7 +25,7 @@ code-byte Convention.Aix = omega arith
 code-byte Convention.Ppc64b = omega arith
 
 -- the code of a convention is read as it
-pub code-back : (c : Convention) → convention_code (code_of c) ≡ ConventionCode.Known c
+pub code-back : (c : Convention) → convention_code (code_of c) ≡ Ok c
 unfolding convention_code
 code-back Convention.Ppc64 = refl
 code-back Convention.Z = refl
@@ -32,11 +33,11 @@ code-back Convention.Aix = refl
 code-back Convention.Ppc64b = refl
 
 -- what is read as a convention is its code
-abbrev pub CodeIs : ℕ → ConventionCode → Type 0
-CodeIs x (ConventionCode.Known c) = x ≡ code_of c
-CodeIs x ConventionCode.Unknown = Unit {0}
+abbrev pub CodeIs : ℕ → Result Convention UnknownConvention → Type 0
+CodeIs x (Ok c) = x ≡ code_of c
+CodeIs x (Err _) = Unit {0}
 
-by-test : (P : ConventionCode → Type 0) (b : Bool) (x y : ConventionCode) → (b ≡ true → P x) → P y → P (pick b x y)
+by-test : (P : Result Convention UnknownConvention → Type 0) (b : Bool) (x y : Result Convention UnknownConvention) → (b ≡ true → P x) → P y → P (pick b x y)
 by-test P true x y f g = f refl
 by-test P false x y f g = g
 

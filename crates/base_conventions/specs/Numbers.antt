@@ -1,10 +1,10 @@
 -- The numbers of each convention that calls and frames share, each once. The published papers are 000 (PPC64), 001 (Z) and 003 (AIX). 02, No. 12:
 -- code 4 is "PPC64 with that rule", on long doubles, and so has PPC64's numbers.
 -- Assumes nothing.
-use Rattle.std.specs.Prelude.{ℕ, ◌*◌, eqb}
+use Rattle.base_conventions.specs.declared.UnknownConvention.{UnknownConvention}
+use Rattle.std.specs.Prelude.{ℕ, ◌*◌, eqb, Ok, Err, Result}
 use Rattle.base_words.specs.Basics.{pick}
 use Rattle.base_conventions.specs.declared.Convention.{Convention}
-use Rattle.base_conventions.specs.declared.ConventionCode.{ConventionCode}
 
 -- the bytes of a word: of a pointer ("pointer (8 bytes)"), of a general register and of a back chain ("r(n) at S - 8(32 - m) - 8(32 - n)",
 -- "at S + 8n"), of a place in the argument list ("Sizes in doublewords", "then 8 stack bytes"); 02, No. 1: "Registers are 4 bytes wide",
@@ -49,10 +49,14 @@ code_of Convention.Z = 2
 code_of Convention.Aix = 3
 code_of Convention.Ppc64b = 4
 
+-- what a code that is no convention's is refused with
+abbrev pub unknown_convention : UnknownConvention
+unknown_convention = record {}
+
 -- the convention of a code
-unfoldable pub convention_code : ℕ → ConventionCode
+unfoldable pub convention_code : ℕ → Result Convention UnknownConvention
 convention_code x =
-    pick (eqb x (code_of Convention.Ppc64)) (ConventionCode.Known Convention.Ppc64)
-    (pick (eqb x (code_of Convention.Z)) (ConventionCode.Known Convention.Z)
-    (pick (eqb x (code_of Convention.Aix)) (ConventionCode.Known Convention.Aix)
-    (pick (eqb x (code_of Convention.Ppc64b)) (ConventionCode.Known Convention.Ppc64b) ConventionCode.Unknown)))
+    pick (eqb x (code_of Convention.Ppc64)) (Ok Convention.Ppc64)
+    (pick (eqb x (code_of Convention.Z)) (Ok Convention.Z)
+    (pick (eqb x (code_of Convention.Aix)) (Ok Convention.Aix)
+    (pick (eqb x (code_of Convention.Ppc64b)) (Ok Convention.Ppc64b) (Err unknown_convention))))

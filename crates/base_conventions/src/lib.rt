@@ -5,7 +5,7 @@
 ghost use Rattle.std.specs.Prelude.{◌≡◌};
 ghost use Rattle.base_conventions.specs.Numbers.{word_bytes, code_of, convention_code};
 
-#[derive(Clone, Copy)]
+#[derive(Clone, Copy, Debug, PartialEq, Eq)]
 pub enum Convention {
     Ppc64,
     Z,
@@ -13,12 +13,9 @@ pub enum Convention {
     Ppc64b,
 }
 
-// What a code says.
-#[derive(Clone, Copy)]
-pub enum ConventionCode {
-    Known(Convention),
-    Unknown,
-}
+// A code that no convention has.
+#[derive(Clone, Copy, Debug, PartialEq, Eq)]
+pub struct UnknownConvention;
 
 // What the crates below a convention's type need of its numbers: the bytes of a word, and the code.
 impl Convention {
@@ -52,32 +49,33 @@ pub fn word_bytes(c: Convention) -> usize
 }
 
 // The code of a convention.
-pub fn code_of(c: Convention) -> u64
-    ensures { result ≡ code_of c }
-{
-    match c {
-        Convention::Ppc64 => Convention::PPC64_CODE,
-        Convention::Z => Convention::Z_CODE,
-        Convention::Aix => Convention::AIX_CODE,
-        Convention::Ppc64b => Convention::PPC64B_CODE,
+impl From<Convention> for u64 {
+    ghost from_gives = { λ c code. code ≡ code_of c };
+
+    fn from(c: Convention) -> u64 {
+        match c {
+            Convention::Ppc64 => Convention::PPC64_CODE,
+            Convention::Z => Convention::Z_CODE,
+            Convention::Aix => Convention::AIX_CODE,
+            Convention::Ppc64b => Convention::PPC64B_CODE,
+        }
     }
 }
 
 // The convention of a code.
-pub fn convention_code(code: u64) -> ConventionCode
-    ensures { result ≡ convention_code code }
-{
-    if code == Convention::PPC64_CODE {
-        return ConventionCode::Known(Convention::Ppc64);
+impl TryFrom<u64> for Convention {
+    type Error = UnknownConvention;
+
+    ghost try_from_gives = { λ code r. r ≡ convention_code code };
+
+    #[tactic(auto, unfolding(crate::specs::Numbers::convention_code))]
+    fn try_from(code: u64) -> Result<Self, UnknownConvention> {
+        match code {
+            Convention::PPC64_CODE => Ok(Convention::Ppc64),
+            Convention::Z_CODE => Ok(Convention::Z),
+            Convention::AIX_CODE => Ok(Convention::Aix),
+            Convention::PPC64B_CODE => Ok(Convention::Ppc64b),
+            _ => Err(UnknownConvention),
+        }
     }
-    if code == Convention::Z_CODE {
-        return ConventionCode::Known(Convention::Z);
-    }
-    if code == Convention::AIX_CODE {
-        return ConventionCode::Known(Convention::Aix);
-    }
-    if code == Convention::PPC64B_CODE {
-        return ConventionCode::Known(Convention::Ppc64b);
-    }
-    ConventionCode::Unknown
 }

@@ -6,7 +6,7 @@ use native.Mathlib.Omega.{arith}
 use lib.Dec.{eqb}
 use Rattle.base_words.specs.Basics.{pick}
 use borrow.Author.Tests.{eq-eqb, eqb-true}
-use Rattle.base_ieee.specs.declared.Narrowed.TheVariants.{Single, NotWidened}
+use Rattle.std.proofs.Common.{Some, None}
 use Rattle.base_ieee.specs.Format.{FloatFields, single, double, join, split}
 use Rattle.base_ieee.specs.Widening.{widen, widen_fields}
 use Rattle.base_ieee.specs.Narrowing.{candidate, candidate_fields, narrow, WidensTo}
@@ -45,22 +45,22 @@ pub widen-injective : (x y : ℕ) → x < 2 ^ 32 → y < 2 ^ 32 → widen x ≡ 
 widen-injective x y h k e = sym (candidate-of-widen x h) ∙ ap candidate e ∙ candidate-of-widen y k
 
 -- Narrowing a widened single gives it back.
-pub narrow-widen : (x : ℕ) → x < 2 ^ 32 → narrow (widen x) ≡ Single x
+pub narrow-widen : (x : ℕ) → x < 2 ^ 32 → narrow (widen x) ≡ Some x
 unfolding narrow
 narrow-widen x h = rw (candidate-of-widen, eq-eqb (widen x) (widen x) refl)
 
 -- What narrowing accepts is the widening of the single that it answers.
-pub widen-narrow : (d x : ℕ) → narrow d ≡ Single x → WidensTo x d
+pub widen-narrow : (d x : ℕ) → narrow d ≡ Some x → WidensTo x d
 unfolding narrow
 widen-narrow d x = go (eqb (widen (candidate d)) d) refl
   where
-    go : (b : Bool) → eqb (widen (candidate d)) d ≡ b → pick b (Single (candidate d)) NotWidened ≡ Single x → WidensTo x d
+    go : (b : Bool) → eqb (widen (candidate d)) d ≡ b → pick b (Some (candidate d)) None ≡ Some x → WidensTo x d
     go true t e = let q : candidate d ≡ x = cc in subst (λ (y : ℕ). WidensTo y d) q (candidate-below d, eqb-true _ _ t)
     go false t e = let z : ◌≡◌ {A = ℕ} 0 1 = cc in absurd (omega arith)
 
 -- What narrowing refuses is the widening of no single.
-pub not_widened : (d : ℕ) → narrow d ≡ NotWidened → (x : ℕ) → WidensTo x d → ⊥
+pub not_widened : (d : ℕ) → narrow d ≡ None → (x : ℕ) → WidensTo x d → ⊥
 not_widened d e x w =
-    let s : narrow d ≡ Single x = ap narrow (sym w.1) ∙ narrow-widen x w.0 in
+    let s : narrow d ≡ Some x = ap narrow (sym w.1) ∙ narrow-widen x w.0 in
     let z : ◌≡◌ {A = ℕ} 0 1 = cc in
     omega arith

@@ -1,8 +1,7 @@
 -- What widening and narrowing are, without their formulas. Assumes nothing.
 use mathlib.Core.Path.{◌≡◌, refl, sym, ap, ◌∙◌, subst}
 use Prim.Native.Nat.{ℕ}
-use Rattle.base_ieee.specs.declared.Narrowed.{Narrowed}
-use Rattle.base_ieee.specs.declared.Narrowed.TheVariants.{Single, NotWidened}
+use Rattle.std.proofs.Common.{Option, Some, None}
 use Rattle.base_ieee.specs.Format.{single, double, split}
 use Rattle.base_ieee.specs.Widening.{WideningKeeps, WidenExactly}
 use Rattle.base_ieee.specs.Narrowing.{narrow, WidensTo, NarrowExactly}
@@ -24,6 +23,6 @@ narrow-exactly d = record {
   refuses = (not_widened d, λ none. only-refused none (narrow d) refl);
 }
   where
-    only-refused : ((x : ℕ) → WidensTo x d → ⊥) → (n : Narrowed) → narrow d ≡ n → narrow d ≡ NotWidened
-    only-refused none (Single x) e = absurd (none x (widen-narrow d x e))
-    only-refused none NotWidened e = e
+    only-refused : ((x : ℕ) → WidensTo x d → ⊥) → (n : Option ℕ) → narrow d ≡ n → narrow d ≡ None
+    only-refused none (Some x) e = absurd (none x (widen-narrow d x e))
+    only-refused none None e = e

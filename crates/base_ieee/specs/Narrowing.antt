@@ -2,10 +2,8 @@
 -- widened single". Its worked values are in the crate both_vectors' table.
 -- `NarrowExactly` says what narrowing is without the formula of its candidate; proofs/Theorems.antt has it of all 64 bits.
 -- Assumes nothing.
-use Rattle.std.specs.Prelude.{ℕ, ◌+◌, ◌-◌, ◌/◌, ◌^◌, ◌<◌, min, ◌≡◌, ◌↔◌, Bool, true, false, eqb, leb}
+use Rattle.std.specs.Prelude.{ℕ, ◌+◌, ◌-◌, ◌/◌, ◌^◌, ◌<◌, min, ◌≡◌, ◌↔◌, Bool, true, false, Option, Some, None, eqb, leb}
 use Rattle.base_words.specs.Basics.{pick}
-use Rattle.base_ieee.specs.declared.Narrowed.{Narrowed}
-use Rattle.base_ieee.specs.declared.Narrowed.TheVariants.{Single, NotWidened}
 use Rattle.base_ieee.specs.Format.{Format, FloatFields, single, double, width, all_ones, hidden_bit, join, split}
 use Rattle.base_ieee.specs.Widening.{rebias, widen}
 
@@ -33,15 +31,15 @@ unfoldable pub candidate : ℕ → ℕ
 candidate d = join single (candidate_fields single double (split double d))
 
 -- The single that widens to the 64 bits d, if there is one.
-unfoldable pub narrow : ℕ → Narrowed
-narrow d = pick (eqb (widen (candidate d)) d) (Single (candidate d)) NotWidened
+unfoldable pub narrow : ℕ → Option ℕ
+narrow d = pick (eqb (widen (candidate d)) d) (Some (candidate d)) None
 
 -- d is the widening of the single x.
 abbrev pub WidensTo : ℕ → ℕ → Type 0
 WidensTo x d = (x < 2 ^ width single) × (widen x ≡ d)
 
 -- Narrowing accepts exactly the widened singles: it answers a single exactly where this single widens to d, and
--- `NotWidened` (refusal 14) exactly where no single does.
+-- `None` (refusal 14) exactly where no single does.
 pub record NarrowExactly (d : ℕ) : Type 0 where
-  pub accepts : (x : ℕ) → (narrow d ≡ Single x) ↔ WidensTo x d
-  pub refuses : (narrow d ≡ NotWidened) ↔ ((x : ℕ) → WidensTo x d → ⊥)
+  pub accepts : (x : ℕ) → (narrow d ≡ Some x) ↔ WidensTo x d
+  pub refuses : (narrow d ≡ None) ↔ ((x : ℕ) → WidensTo x d → ⊥)

@@ -37,31 +37,23 @@ fn widen_magnitude(m: u64) -> u64
     ensures { result ≡ magnitude_of (m / 2 ^ 23) (m % 2 ^ 23) }
 {
     if m == 0 {
-        return 0;
+        0
+    } else if m < SINGLE_UNIT {
+        let shift = u64::from((m as u32).leading_zeros() - 8);
+        (REBIAS - shift) * DOUBLE_UNIT + (m << shift) * LONGER
+    } else if m < SINGLE_INFINITY {
+        REBIAS * DOUBLE_UNIT + m * LONGER
+    } else {
+        DOUBLE_INFINITY + (m - SINGLE_INFINITY) * LONGER
     }
-    if m < SINGLE_UNIT {
-        let shift = (u32::leading_zeros(m as u32) - 8) as u64;
-        return (REBIAS - shift) * DOUBLE_UNIT + (m << shift) * LONGER;
-    }
-    if m < SINGLE_INFINITY {
-        return REBIAS * DOUBLE_UNIT + m * LONGER;
-    }
-    DOUBLE_INFINITY + (m - SINGLE_INFINITY) * LONGER
 }
 
 // The double that the single x widens to.
 pub fn widen(x: u32) -> u64
     ensures { result ≡ widen_of x }
 {
-    let bits = x as u64;
+    let bits = u64::from(x);
     bits / SINGLE_SIGN * DOUBLE_SIGN + widen_magnitude(bits % SINGLE_SIGN)
-}
-
-// What narrowing finds: the single that widens to the 64 bits, or that there is none.
-#[derive(Clone, Copy)]
-pub enum Narrowed {
-    Single(u32),
-    NotWidened,
 }
 
 // The only single without its sign that can widen to a double without its sign, given by the double's fields. Below the
@@ -73,15 +65,14 @@ fn candidate_magnitude(exponent: u64, fraction: u64) -> u64
     ensures { result ≡ candidate_magnitude exponent fraction }
 {
     if exponent < 874 {
-        return 0;
+        0
+    } else if exponent <= REBIAS {
+        (DOUBLE_UNIT + fraction) >> (926 - exponent)
+    } else if exponent < 1151 {
+        (exponent - REBIAS) * SINGLE_UNIT + fraction / LONGER
+    } else {
+        SINGLE_INFINITY + fraction / LONGER
     }
-    if exponent <= REBIAS {
-        return (DOUBLE_UNIT + fraction) >> (926 - exponent);
-    }
-    if exponent < 1151 {
-        return (exponent - REBIAS) * SINGLE_UNIT + fraction / LONGER;
-    }
-    SINGLE_INFINITY + fraction / LONGER
 }
 
 // The only single that can widen to d.
@@ -94,13 +85,10 @@ fn candidate(d: u64) -> u32
     (sign * SINGLE_SIGN + candidate_magnitude(exponent, fraction)) as u32
 }
 
-// The single that widens to d: the only candidate, if it does.
-pub fn narrow(d: u64) -> Narrowed
+// The single that widens to d, if there is one: the only candidate.
+pub fn narrow(d: u64) -> Option<u32>
     ensures { result ≡ narrow_of d }
 {
     let x = candidate(d);
-    if widen(x) == d {
-        return Narrowed::Single(x);
-    }
-    Narrowed::NotWidened
+    (widen(x) == d).then_some(x)
 }

@@ -1,10 +1,10 @@
 // Big-endian numbers in lent bytes, and bytes put at the head of a lent part. A function that writes is lent the part that starts where it is to write,
-// so that every caller's write is a splice (the law `lent-tail`). The loops are plain: at the constant width 8 the compiler makes of `load` and `store` one
-// load or store with its bytes swapped. Beside them stand the few functions on numbers that layers of both families use. Nothing here knows of signatures or frames.
+// so that every caller's write is a splice (the law `lent-tail`). At the constant width 8 the compiler makes of `load` and `store` one load or store with
+// its bytes swapped. Beside them stands what layers of both families ask of numbers. Nothing here knows of signatures or frames.
 #![tactic(auto)]
 
-ghost use Rattle.std.specs.Prelude.{◌≡◌, ◌+◌, ◌^◌, ◌≤◌, ◌<◌, min, max, length, replicate};
-ghost use Rattle.base_words.specs.Basics.{flag, round_up};
+ghost use Rattle.std.specs.Prelude.{◌≡◌, ◌+◌, ◌^◌, ◌≤◌, ◌<◌, length, replicate};
+ghost use Rattle.base_words.specs.Basics.{round_up};
 ghost use Rattle.base_words.specs.Splice.{overlay, splice, part};
 ghost use Rattle.base_words.specs.Numbers.{bytes_of, value_of, zero_extended, sign_extended};
 
@@ -13,11 +13,7 @@ pub fn put(s: &mut [u8], bs: &[u8])
     requires { length bs.now ≤ length s.old }
     ensures { s.new ≡ overlay s.old bs.now }
 {
-    let mut i: usize = 0;
-    while i < bs.len() {
-        s[i] = bs[i];
-        i += 1;
-    }
+    s[..bs.len()].copy_from_slice(bs);
 }
 
 // n zeros at the head of s.
@@ -25,11 +21,7 @@ pub fn put_zeros(s: &mut [u8], n: usize)
     requires { n ≤ length s.old }
     ensures { s.new ≡ overlay s.old (replicate n 0) }
 {
-    let mut i: usize = 0;
-    while i < n {
-        s[i] = 0;
-        i += 1;
-    }
+    s[..n].fill(0);
 }
 
 // The n lowest bytes of x, the highest first, at the head of s.
@@ -37,12 +29,10 @@ pub fn put_number(s: &mut [u8], n: usize, x: u64)
     requires { n ≤ length s.old }
     ensures { s.new ≡ overlay s.old (bytes_of n x) }
 {
-    let mut i = n;
     let mut rest = x;
-    while 0 < i {
-        i -= 1;
+    for i in (0..n).rev() {
         s[i] = (rest % 256) as u8;
-        rest = rest / 256;
+        rest /= 256;
     }
 }
 
@@ -60,10 +50,8 @@ pub fn load(s: &[u8], at: usize, n: usize) -> u64
     ensures { result ≡ value_of (part at n s.now) }
 {
     let mut value: u64 = 0;
-    let mut i: usize = 0;
-    while i < n {
-        value = value * 256 + s[at + i] as u64;
-        i += 1;
+    for b in &s[at..at + n] {
+        value = value * 256 + u64::from(*b);
     }
     value
 }
@@ -88,25 +76,6 @@ pub fn sign_extend(x: u64, n: usize) -> u64
         return low;
     }
     low + (u64::MAX - (sign - 1) - sign)
-}
-
-// A test as a number.
-pub fn flag(b: bool) -> u64
-    ensures { result ≡ flag b }
-{
-    if b { 1 } else { 0 }
-}
-
-pub fn smaller(a: usize, b: usize) -> usize
-    ensures { result ≡ min a b }
-{
-    if a < b { a } else { b }
-}
-
-pub fn larger(a: usize, b: usize) -> usize
-    ensures { result ≡ max a b }
-{
-    if a < b { b } else { a }
 }
 
 // x rounded up to a multiple of a.

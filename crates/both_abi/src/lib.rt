@@ -1,5 +1,5 @@
-// Each convention as one type: its constants, its rules for calls and for frames, its starting cursor and its fresh machine. The functions below the
-// types go from a `Convention` to what its type says.
+// Each convention as one type: its constants, and its rules for calls and for frames. The functions below the types go from a `Convention` to what its
+// type says; its starting cursor and its fresh machine are written once over them.
 #![tactic(auto)]
 
 ghost use Rattle.std.specs.Prelude.{◌≡◌, length};
@@ -51,18 +51,6 @@ impl Ppc64 {
         earlier(Self::WORD)
     }
 
-    // Where the first argument starts.
-    pub fn cursor() -> Cursor
-        ensures { result ≡ fresh_cursor (rules_of Convention.Ppc64) }
-    {
-        Cursor {
-            general: Self::FIRST_GENERAL,
-            floating: Self::FIRST_FLOATING,
-            stack: 0,
-            copies: 0,
-        }
-    }
-
     pub fn frame_rules() -> FrameRules
         ensures { result ≡ rules Convention.Ppc64 }
     {
@@ -80,20 +68,6 @@ impl Ppc64 {
             fpr: power_fpr(),
             linkage: Linkage::LinkRegister(Self::CR_SLOT, Self::LR_SLOT),
         }
-    }
-
-    // The fresh machine.
-    pub fn start(memory: &mut [u8], base: u64, registers: Registers) -> FrameOutcome
-        ensures value { result ≡ start_outcome Convention.Ppc64 base (length memory.old) registers }
-        ensures memory_after { memory.new ≡ start_memory Convention.Ppc64 base memory.old }
-    {
-        frame_starting::start(
-            Ppc64::frame_rules(),
-            Convention::Ppc64,
-            memory,
-            base,
-            registers,
-        )
     }
 }
 
@@ -132,17 +106,6 @@ impl Z {
         plan_places::CallRules::Z
     }
 
-    pub fn cursor() -> Cursor
-        ensures { result ≡ fresh_cursor (rules_of Convention.Z) }
-    {
-        Cursor {
-            general: Self::FIRST_GENERAL,
-            floating: Self::FIRST_FLOATING,
-            stack: 0,
-            copies: 0,
-        }
-    }
-
     pub fn frame_rules() -> FrameRules
         ensures { result ≡ rules Convention.Z }
     {
@@ -178,8 +141,8 @@ impl Z {
             gpr: BankRules {
                 request: RegisterSpan { first: 6, last: 14 },
                 last: 13,
-                volatile: volatile,
-                preserved: preserved,
+                volatile,
+                preserved,
             },
             fpr: BankRules {
                 request: RegisterSpan { first: 8, last: 16 },
@@ -189,13 +152,6 @@ impl Z {
             },
             linkage: Linkage::SaveArea(Self::RETURN_REGISTER),
         }
-    }
-
-    pub fn start(memory: &mut [u8], base: u64, registers: Registers) -> FrameOutcome
-        ensures value { result ≡ start_outcome Convention.Z base (length memory.old) registers }
-        ensures memory_after { memory.new ≡ start_memory Convention.Z base memory.old }
-    {
-        frame_starting::start(Z::frame_rules(), Convention::Z, memory, base, registers)
     }
 }
 
@@ -236,17 +192,6 @@ impl Aix {
         earlier(Self::WORD)
     }
 
-    pub fn cursor() -> Cursor
-        ensures { result ≡ fresh_cursor (rules_of Convention.Aix) }
-    {
-        Cursor {
-            general: Self::FIRST_GENERAL,
-            floating: Self::FIRST_FLOATING,
-            stack: 0,
-            copies: 0,
-        }
-    }
-
     pub fn frame_rules() -> FrameRules
         ensures { result ≡ rules Convention.Aix }
     {
@@ -264,13 +209,6 @@ impl Aix {
             fpr: power_fpr(),
             linkage: Linkage::LinkRegister(Self::CR_SLOT, Self::LR_SLOT),
         }
-    }
-
-    pub fn start(memory: &mut [u8], base: u64, registers: Registers) -> FrameOutcome
-        ensures value { result ≡ start_outcome Convention.Aix base (length memory.old) registers }
-        ensures memory_after { memory.new ≡ start_memory Convention.Aix base memory.old }
-    {
-        frame_starting::start(Aix::frame_rules(), Convention::Aix, memory, base, registers)
     }
 }
 
@@ -301,35 +239,11 @@ impl Ppc64b {
         })
     }
 
-    pub fn cursor() -> Cursor
-        ensures { result ≡ fresh_cursor (rules_of Convention.Ppc64b) }
-    {
-        Cursor {
-            general: Self::FIRST_GENERAL,
-            floating: Self::FIRST_FLOATING,
-            stack: 0,
-            copies: 0,
-        }
-    }
-
     // The edition says nothing of frames.
     pub fn frame_rules() -> FrameRules
         ensures { result ≡ rules Convention.Ppc64b }
     {
         Ppc64::frame_rules()
-    }
-
-    pub fn start(memory: &mut [u8], base: u64, registers: Registers) -> FrameOutcome
-        ensures value { result ≡ start_outcome Convention.Ppc64b base (length memory.old) registers }
-        ensures memory_after { memory.new ≡ start_memory Convention.Ppc64b base memory.old }
-    {
-        frame_starting::start(
-            Ppc64b::frame_rules(),
-            Convention::Ppc64b,
-            memory,
-            base,
-            registers,
-        )
     }
 }
 
@@ -340,7 +254,7 @@ fn earlier(word: usize) -> plan_places::CallRules
     ensures { result ≡ power word Edition.Earlier }
 {
     plan_places::CallRules::Power(PowerRules {
-        word: word,
+        word,
         edition: Edition::Earlier,
         ellipsis: false,
     })
@@ -362,13 +276,10 @@ fn power_gpr(first: usize) -> BankRules
         },
     ];
     BankRules {
-        request: RegisterSpan {
-            first: first,
-            last: 32,
-        },
+        request: RegisterSpan { first, last: 32 },
         last: 31,
-        volatile: volatile,
-        preserved: preserved,
+        volatile,
+        preserved,
     }
 }
 
@@ -396,8 +307,8 @@ fn power_fpr() -> BankRules
             last: 32,
         },
         last: 31,
-        volatile: volatile,
-        preserved: preserved,
+        volatile,
+        preserved,
     }
 }
 
@@ -416,14 +327,21 @@ pub fn call_rules_of(c: Convention) -> plan_places::CallRules
 }
 
 // Where its first argument starts.
+#[tactic(auto, unfolding(plan_places::specs::Step::fresh_cursor))]
 pub fn cursor_of(c: Convention) -> Cursor
     ensures { result ≡ fresh_cursor (rules_of c) }
 {
-    match c {
-        Convention::Ppc64 => Ppc64::cursor(),
-        Convention::Z => Z::cursor(),
-        Convention::Aix => Aix::cursor(),
-        Convention::Ppc64b => Ppc64b::cursor(),
+    let (general, floating) = match c {
+        Convention::Ppc64 => (Ppc64::FIRST_GENERAL, Ppc64::FIRST_FLOATING),
+        Convention::Z => (Z::FIRST_GENERAL, Z::FIRST_FLOATING),
+        Convention::Aix => (Aix::FIRST_GENERAL, Aix::FIRST_FLOATING),
+        Convention::Ppc64b => (Ppc64b::FIRST_GENERAL, Ppc64b::FIRST_FLOATING),
+    };
+    Cursor {
+        general,
+        floating,
+        stack: 0,
+        copies: 0,
     }
 }
 
@@ -449,4 +367,12 @@ pub fn frame_rules_of(c: Convention) -> FrameRules
         Convention::Aix => Aix::frame_rules(),
         Convention::Ppc64b => Ppc64b::frame_rules(),
     }
+}
+
+// A fresh machine of the convention.
+pub fn start(c: Convention, memory: &mut [u8], base: u64, registers: Registers) -> FrameOutcome
+    ensures value { result ≡ start_outcome c base (length memory.old) registers }
+    ensures memory_after { memory.new ≡ start_memory c base memory.old }
+{
+    frame_starting::start(frame_rules_of(c), c, memory, base, registers)
 }

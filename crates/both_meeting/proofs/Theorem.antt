@@ -1,4 +1,5 @@
 -- The numbers of both families agree, and the area of an accepted call is one that a request may ask for (specs/Meeting.antt states it). Assumes nothing.
+use Rattle.std.proofs.Common.{Ok, Option}
 use mathlib.Core.Path.{◌≡◌, refl}
 use mathlib.Core.Logic.{inl, inr, ⊎_elim}
 use mathlib.Core.Bool.{Bool, true, false, not, ◌||◌}
@@ -15,8 +16,6 @@ use Rattle.sig_types.specs.Limits.{AllSized}
 use Rattle.sig_types.specs.Trees.{Trees, none, ◌▸◌, type_of, count_of}
 use Rattle.sig_items.specs.declared.Fault.{Fault}
 use Rattle.sig_items.specs.Reading.{Reading, got, no}
-use Rattle.sig_signatures.specs.declared.ResultType.{ResultType}
-use Rattle.sig_signatures.specs.declared.Outcome.{Outcome}
 use Rattle.sig_signatures.specs.Limits.{max_arguments}
 use Rattle.sig_signatures.specs.Signature.{Signature}
 use Rattle.sig_signatures.specs.Read.{signature_of}
@@ -168,7 +167,7 @@ requested-in : (g : Signature) (next n : ℕ) → AllSized g.convention g.argume
 unfolding plan_answer plan_in
 requested-in g next n sized few =
     let c : Convention = g.convention in
-    let r : ResultType = result_type c g.result in
+    let r : (Option ValueType) = result_type c g.result in
     let first = start-moves c (hidden_in c r) in
     let last = last-moves c (start_in c r) g.arguments sized first.1 in
     let d : Cursor = last_cursor_in c r (types_of c g.arguments) in
@@ -182,7 +181,7 @@ requested-in g next n sized few =
       exact = λ f. rw (agree c).least a.exact;
     }
 
-refused-not : (f : Fault) (n : ℕ) → (plan_answer (no f)).outcome ≡ Outcome.Accepted n → ⊥
+refused-not : (f : Fault) (n : ℕ) → (plan_answer (no f)).outcome ≡ Ok n → ⊥
 unfolding plan_answer
 refused-not f n e = let z : ◌≡◌ {A = ℕ} 0 1 = cc in omega arith
 
@@ -191,6 +190,6 @@ pub requested : AreaRequested
 unfolding called
 requested s n = go (signature_of s) refl
   where
-    go : (x : Reading Signature) → signature_of s ≡ x → (plan_answer (called x)).outcome ≡ Outcome.Accepted n → Requested (plan_answer x)
+    go : (x : Reading Signature) → signature_of s ≡ x → (plan_answer (called x)).outcome ≡ Ok n → Requested (plan_answer x)
     go (got g next m) q e = let a = accepted s g next m q in requested-in g next m a.arguments a.within.few
     go (no f) q e = absurd (refused-not f n e)

@@ -1,11 +1,10 @@
 -- Where the two families meet: the numbers that calls and frames share, the argument registers among those that a frame may write, and the parameter area of a call as the
 -- outgoing area of its caller's frame. Document 01, "Frames"; document 02, No. 1 and No. 6. `FamiliesAgree` and `AreaRequested` are the claims; proofs/Theorem.antt proves them.
 -- Assumes nothing.
-use Rattle.std.specs.Prelude.{ℕ, ◌%◌, ◌≤◌, ◌≡◌, ◌⊎◌, true, false, List}
+use Rattle.std.specs.Prelude.{ℕ, ◌%◌, ◌≤◌, ◌≡◌, ◌⊎◌, true, false, List, Ok}
 use Rattle.base_words.specs.Basics.{round_up}
 use Rattle.base_conventions.specs.declared.Convention.{Convention}
 use Rattle.base_conventions.specs.Numbers.{word_bytes, header_bytes, stack_alignment, least_area}
-use Rattle.sig_signatures.specs.declared.Outcome.{Outcome}
 use Rattle.plan_places.specs.Step.{rules_of, word_of}
 use Rattle.plan_places.specs.Spots.{general, floating, ArgumentRegister}
 use Rattle.plan_plans.specs.declared.Plan.{Plan}
@@ -52,4 +51,4 @@ pub record Requested (p : Plan) : Type 0 where
 
 -- every accepted call's area is an outgoing area that enter accepts
 abbrev pub AreaRequested : Type 0
-AreaRequested = (s : List ℕ) (n : ℕ) → outcome_for s ≡ Outcome.Accepted n → Requested (plan_for s)
+AreaRequested = (s : List ℕ) (n : ℕ) → outcome_for s ≡ Ok n → Requested (plan_for s)

@@ -1,10 +1,11 @@
 -- Every case of the table holds: each side computes. Assumes nothing.
+use Rattle.sig_types.specs.Codes.{integer_code, float_code}
 use mathlib.Core.Path.{refl}
 use Rattle.base_conventions.specs.Numbers.{convention_code}
 use Rattle.base_words.specs.Basics.{round_up, All}
 use Rattle.sig_types.specs.Structs.{with_field, shape_of}
 use Rattle.sig_types.specs.Trees.{type_of, count_of}
-use Rattle.sig_items.specs.Read.{body_at, integer_code, float_code, integer_at, float_of, float_at, sequence, sized_at, contents_at, item_by, struct_at, item_at}
+use Rattle.sig_items.specs.Read.{body_at, integer_at, float_of, float_at, sequence, sized_at, contents_at, item_by, struct_at, item_at}
 use Rattle.sig_signatures.specs.Read.{convention_at, result_in, result_at, ellipsis_at, arguments_in, arguments_at, after_ellipsis, after_result, after_convention, signature_of}
 use Rattle.plan_places.specs.Power.{words, fprs, share_of, power_share, unclear}
 use Rattle.plan_places.specs.ZSeries.{z_class, z_span_of, z_next_of}

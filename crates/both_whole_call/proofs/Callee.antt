@@ -40,8 +40,8 @@ use Rattle.frame_rules.specs.declared.Registers.{Registers}
 use Rattle.frame_rules.specs.Rules.{rules}
 use Rattle.frame_rules.specs.Frames.{outgoing_length}
 use Rattle.frame_rules.proofs.Conventions.{lawful}
-use Rattle.frame_machine.specs.declared.FrameAnswer.{FrameAnswer}
-use Rattle.frame_machine.specs.declared.FrameAnswer.TheVariants.{Accepted}
+use Rattle.frame_machine.specs.Answers.{FrameAnswer}
+use Rattle.std.specs.Prelude.{Ok}
 use Rattle.frame_machine.specs.declared.State.{State}
 use Rattle.frame_machine.specs.Machine.{offset}
 use Rattle.frame_history.specs.Calls.{Call, enter, leave, Machine, answer, after}
@@ -75,7 +75,7 @@ pub record Homed (s values copies : List ℕ) (f : Frame) (m : Machine) : Type 0
       bytes_in (callers_area (frames_for s) f m') (plan_for s).area m' ≡ homed_area s (seen s f copies m)
 
 pub record Returned (p : Plan) (o : OpenEnter) (os : List OpenEnter) (m : Machine) : Type 0 where
-  pub accepted : answer leave m ≡ Accepted
+  pub accepted : answer leave m ≡ Ok tt
   pub kept : Preserved (rules p.convention) o os (after leave m)
   pub result : All (λ (x : Register). held_in (after leave m).state.registers x ≡ held_in m.state.registers x) (span_registers (result_spans p.result))
 
@@ -89,11 +89,11 @@ pub record Claims (s values : List ℕ) (copies : Machine → List ℕ) (base hi
   pub accepted : AllAccepted puts m
   pub opened : opened_by puts m os ≡ os
   pub fit : CallsFit puts
-  pub passed : (f : Frame) → answer (enter f) (run puts m) ≡ Accepted
+  pub passed : (f : Frame) → answer (enter f) (run puts m) ≡ Ok tt
       → PassedToCallee s values (copies (in_callee puts m f)) base hidden f (in_callee puts m f)
-  pub homed : homeless (rules_for s) ≡ false → (f : Frame) → answer (enter f) (run puts m) ≡ Accepted
+  pub homed : homeless (rules_for s) ≡ false → (f : Frame) → answer (enter f) (run puts m) ≡ Ok tt
       → Homed s values (copies (in_callee puts m f)) f (in_callee puts m f)
-  pub returned : (f : Frame) → answer (enter f) (run puts m) ≡ Accepted → (body : List Call) → CallsFit body
+  pub returned : (f : Frame) → answer (enter f) (run puts m) ≡ Ok tt → (body : List Call) → CallsFit body
       → opened_by body (in_callee puts m f) (calling puts m f ∷ os) ≡ calling puts m f ∷ os
       → Returned (plan_for s) (calling puts m f) os (run body (in_callee puts m f))
 
@@ -107,7 +107,7 @@ pub record Ready (s : List ℕ) (b : Buffers) (cs : Machine → List ℕ) (n : �
   pub area : bytes_in (own_area (frames_for s) (run puts m)) (plan_for s).area (run puts m) ≡ take (plan_for s).area b.area
   pub least : (plan_for s).copies ≤ n
   pub most : n ≤ length b.copies
-  pub copies : (f : Frame) → answer (enter f) (run puts m) ≡ Accepted → cs (in_callee puts m f) ≡ take n b.copies
+  pub copies : (f : Frame) → answer (enter f) (run puts m) ≡ Ok tt → cs (in_callee puts m f) ≡ take n b.copies
 
 module _ (s values image area copies : List ℕ) (base hidden : ℕ) (filled : Filled s values image area copies base hidden) where
   abbrev p : Plan
@@ -129,7 +129,7 @@ module _ (s values image area copies : List ℕ) (base hidden : ℕ) (filled : F
   all-bytes = named-bytes s values image area copies base hidden filled stands.all
 
   module _ (os : List OpenEnter) (m : Machine) (able : Able p os m) (cs : Machine → List ℕ) (n : ℕ) (puts : List Call) (ready : Ready s b cs n os m puts)
-      (f : Frame) (e : answer (enter f) (run puts m) ≡ Accepted) where
+      (f : Frame) (e : answer (enter f) (run puts m) ≡ Ok tt) where
     abbrev m₁ : Machine
     m₁ = run puts m
 

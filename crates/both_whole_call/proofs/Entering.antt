@@ -19,7 +19,7 @@ use Rattle.frame_rules.specs.Frames.{with_pointer, below, frame_size, chain_widt
 use Rattle.frame_rules.specs.Helpers.{LawfulFrames}
 use Rattle.frame_rules.proofs.Conventions.{lawful}
 use Rattle.frame_rules.proofs.Places.{chain-in, below-reach, ascending}
-use Rattle.frame_machine.specs.declared.FrameAnswer.TheVariants.{Accepted}
+use Rattle.std.specs.Prelude.{Ok}
 use Rattle.frame_machine.specs.declared.State.{State}
 use Rattle.frame_machine.specs.Machine.{state_rules, stack_pointer, offset, enter_answer, entered, entered_memory, enter_outcome}
 use Rattle.frame_machine.specs.Helpers.{CanEnter}
@@ -50,19 +50,19 @@ unfolding entered with_pointer
 entered-register k s f Bank.General n h = get_or-set_other s.registers.gpr k.pointer n (stack_pointer k s - frame_size k f) 0 (λ e. h e refl)
 entered-register k s f Bank.Floating n h = refl
 
-module _ (c : Convention) (os : List OpenEnter) (m : Machine) (i : Invariant (rules c) os m) (f : Frame) (e : answer (enter f) m ≡ Accepted) where
+module _ (c : Convention) (os : List OpenEnter) (m : Machine) (i : Invariant (rules c) os m) (f : Frame) (e : answer (enter f) m ≡ Ok tt) where
   abbrev k : FrameRules
   k = rules c
 
   base : Base k m
   base = base-of k os m i
 
-  judged : enter_answer (state_rules m.state) m.state (length m.memory) f ≡ Accepted
+  judged : enter_answer (state_rules m.state) m.state (length m.memory) f ≡ Ok tt
   unfolding enter_outcome
   judged = e
 
   can : CanEnter k m.state f
-  can = (enter-yes k m.state (length m.memory) f (subst (λ (r : FrameRules). enter_answer r m.state (length m.memory) f ≡ Accepted) base.rules judged)).1
+  can = (enter-yes k m.state (length m.memory) f (subst (λ (r : FrameRules). enter_answer r m.state (length m.memory) f ≡ Ok tt) base.rules judged)).1
 
   enter-state : (after (enter f) m).state ≡ entered k m.state f
   enter-state = ap (λ o. o.state) (enter-accepted m.state m.memory f judged).0 ∙ ap (λ (r : FrameRules). entered r m.state f) base.rules

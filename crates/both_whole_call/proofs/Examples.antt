@@ -1,5 +1,6 @@
 -- A whole call of each convention worked on numbers, so that the theorem is seen to speak of something: the calls that put the arguments, computed, and what the theorem then
 -- says of a callee. Assumes nothing.
+use Rattle.sig_types.specs.Codes.{integer_code, float_code}
 use Prim.Native.Nat.{ℕ, zero, suc, ◌-◌, ◌^◌, ◌≤◌, ◌<◌}
 use mathlib.Core.Path.{◌≡◌, refl, sym, ap, ◌∙◌, subst}
 use mathlib.Core.Bool.{Bool, true, false, ◌&&◌}
@@ -19,7 +20,7 @@ use Rattle.base_conventions.specs.declared.Convention.{Convention}
 use Rattle.base_conventions.specs.Numbers.{convention_code}
 use Rattle.sig_types.specs.Structs.{with_field, shape_of}
 use Rattle.sig_types.specs.Trees.{type_of, count_of}
-use Rattle.sig_items.specs.Read.{body_at, integer_code, float_code, integer_at, float_of, float_at, sequence, sized_at, contents_at, item_by, struct_at, item_at}
+use Rattle.sig_items.specs.Read.{body_at, integer_at, float_of, float_at, sequence, sized_at, contents_at, item_by, struct_at, item_at}
 use Rattle.sig_signatures.specs.Read.{convention_at, result_in, result_at, arguments_in, arguments_at, ellipsis_at, after_ellipsis, after_result, after_convention, signature_of}
 use Rattle.sig_signatures.specs.Answer.{listed, table}
 use Rattle.plan_places.specs.declared.Bank.{Bank}
@@ -36,7 +37,6 @@ use Rattle.call_slots.specs.Forms.{struct_at_head, starts_at_head, extended, hom
 use Rattle.call_slots.specs.Placements.{placements, standing, slots_of, slots_of_all}
 use Rattle.call_slots.specs.Refusals.{first_of}
 use Rattle.call_slots.specs.Arguments.{placements_in, arguments_of, plan_for}
-use Rattle.call_slots.specs.declared.CallAnswer.{CallAnswer}
 use Rattle.call_slots.proofs.Buffers.{put_all-lengths}
 use Rattle.call_fill.specs.Fill.{fill_lengths, bad_copies, fill_tests, fill_answer, fill_buffers, filled_slots}
 use Rattle.call_roundtrip.specs.RoundTrip.{Filled, left_by_fill, ReadBack}
@@ -44,7 +44,7 @@ use Rattle.frame_saves.specs.Saves.{store, load, save_run}
 use Rattle.frame_rules.specs.declared.Frame.{Frame}
 use Rattle.frame_rules.specs.Rules.{rules}
 use Rattle.frame_rules.specs.Frames.{outgoing_length, with_pointer, all_within, lowered, ok_registers, cleared, ok_leaf, ok_request, below, full_size, frame_size, chain_width, gpr_at, saves_by, bank_of, writable_register, with_register}
-use Rattle.frame_machine.specs.declared.FrameAnswer.TheVariants.{Accepted}
+use Rattle.std.specs.Prelude.{Ok}
 use Rattle.frame_machine.specs.Answers.{judge}
 use Rattle.frame_machine.specs.Machine.{top_frame, caller_frame, ok_frames, sizes, ok_memory, ok_state, start_answer, started, started_memory, enter_answer, entered, entered_memory, writable_bytes, writable_address, write_register_answer, write_memory_answer, written_register, written_memory, start_outcome, start_memory, enter_outcome, enter_memory, write_register_outcome, write_memory_outcome, write_memory_memory}
 use Rattle.frame_word_layout.specs.Words.{registers_in, registers_words, is_machine, depth_in, frame_in, frames_in, state_in, register_words, frame_words, frames_words, state_words}
@@ -59,6 +59,7 @@ use Rattle.both_whole_call.specs.Caller.{Free, CanCall, InLocals, SavedSix}
 use Rattle.both_whole_call.specs.WholeCall.{seen, in_callee, Claims, put_filled}
 use Rattle.both_whole_call.proofs.Named.{named-free}
 use Rattle.both_whole_call.proofs.Theorem.{whole-call}
+use Rattle.call_slots.specs.Answer.{call_done}
 
 -- ---- what every example needs
 
@@ -106,7 +107,7 @@ left_by x = left_by_fill x.signature x.values (replicate 512 7) x.area x.copies 
 record Computed (x : Example) : Type 0 where
   bytes : all_bytes x.values ≡ true
   low : x.base < 2 ^ 64
-  accepted : fill_answer x.signature (fill_lengths x.values (replicate 512 7) x.area x.copies) x.base x.hidden ≡ CallAnswer.Done
+  accepted : fill_answer x.signature (fill_lengths x.values (replicate 512 7) x.area x.copies) x.base x.hidden ≡ call_done
   by : (plan_for x.signature).convention ≡ x.convention
   room : (plan_for x.signature).area ≡ x.size
   some : (1 ≤ length (take x.size (left_by x).area)) × (length (take x.size (left_by x).area) ≤ 256)
@@ -130,7 +131,7 @@ worked x h can =
     (take x.size (left_by x).area ∷ []) (piece x h))
 
 -- from the start, and from a function that the start called
-from_start : (c : Convention) → (start_outcome c 4096 640 (registers_in (replicate registers_words 7) 0)).answer ≡ Accepted → Reached c [] (start c)
+from_start : (c : Convention) → (start_outcome c 4096 640 (registers_in (replicate registers_words 7) 0)).answer ≡ Ok tt → Reached c [] (start c)
 unfolding run opened_by All
 from_start c e = record {
   base = 4096;
@@ -147,7 +148,7 @@ from_start c e = record {
 abbrev entering : Convention → List ℕ → OpenEnter
 entering c q = record { before = machine_in (start c); request = frame_in q 0 }
 
-from-caller : (c : Convention) (q : List ℕ) → (start_outcome c 4096 640 (registers_in (replicate registers_words 7) 0)).answer ≡ Accepted → answer (enter q) (start c) ≡ Accepted
+from-caller : (c : Convention) (q : List ℕ) → (start_outcome c 4096 640 (registers_in (replicate registers_words 7) 0)).answer ≡ Ok tt → answer (enter q) (start c) ≡ Ok tt
     → Reached c (entering c q ∷ []) (calls.after (enter q) (start c))
 unfolding run opened_by All
 from-caller c q e a = record {
@@ -184,7 +185,7 @@ ppc64 = record {
   puts = write_register 0 3 4660 ∷ write_register 0 4 (2 ^ 64 - 2) ∷ write_register 1 1 4614256656552045848 ∷ write_memory 4672 (replicate 64 9) ∷ [];
 }
 
-ppc64-filled : (fill_answer ppc64.signature (fill_lengths ppc64.values (replicate 512 7) ppc64.area ppc64.copies) ppc64.base ppc64.hidden ≡ CallAnswer.Done)
+ppc64-filled : (fill_answer ppc64.signature (fill_lengths ppc64.values (replicate 512 7) ppc64.area ppc64.copies) ppc64.base ppc64.hidden ≡ call_done)
     × ((plan_for ppc64.signature).convention ≡ Convention.Ppc64) × ((plan_for ppc64.signature).area ≡ 64)
 unfolding round_up with_field shape_of type_of count_of listed table body_at integer_code float_code integer_at float_of float_at sequence sized_at contents_at item_by struct_at item_at convention_code convention_at result_in result_at arguments_in arguments_at ellipsis_at after_ellipsis after_result after_convention signature_of with_ellipsis words fprs share_of power_share unclear z_class z_span_of z_next_of span_of next_of unclear_for fresh_cursor start_of area_of hidden_for returning result_of up_from spans_of last_of values_of table_of plan_in types_of plan_answer first_unclear called bad_copies fill_tests first_of fill_answer
 ppc64-filled = (refl, refl, refl)
@@ -232,7 +233,7 @@ z = record {
   puts = write_register 0 2 1 ∷ write_register 0 3 2 ∷ write_register 0 4 3 ∷ write_register 0 5 4 ∷ write_register 0 6 5 ∷ write_memory 4552 (0 ∷ 0 ∷ 0 ∷ 0 ∷ 0 ∷ 0 ∷ 17 ∷ 208 ∷ []) ∷ [];
 }
 
-z-filled : (fill_answer z.signature (fill_lengths z.values (replicate 512 7) z.area z.copies) z.base z.hidden ≡ CallAnswer.Done)
+z-filled : (fill_answer z.signature (fill_lengths z.values (replicate 512 7) z.area z.copies) z.base z.hidden ≡ call_done)
     × ((plan_for z.signature).convention ≡ Convention.Z) × ((plan_for z.signature).area ≡ 8)
 unfolding round_up with_field shape_of type_of count_of listed table body_at integer_code float_code integer_at float_of float_at sequence sized_at contents_at item_by struct_at item_at convention_code convention_at result_in result_at arguments_in arguments_at ellipsis_at after_ellipsis after_result after_convention signature_of with_ellipsis words fprs share_of power_share unclear z_class z_span_of z_next_of span_of next_of unclear_for fresh_cursor start_of area_of hidden_for returning result_of up_from spans_of last_of values_of table_of plan_in types_of plan_answer first_unclear called bad_copies fill_tests first_of fill_answer
 z-filled = (refl, refl, refl)
@@ -280,7 +281,7 @@ aix = record {
   puts = write_register 0 3 16909060 ∷ write_register 0 4 84281096 ∷ write_register 0 5 (2 ^ 32 - 1) ∷ write_register 0 6 2 ∷ write_register 0 7 3 ∷ write_register 0 8 4 ∷ write_register 0 9 5 ∷ write_register 0 10 6 ∷ write_memory 4632 (replicate 32 9 ++ (0 ∷ 0 ∷ 0 ∷ 7 ∷ [])) ∷ [];
 }
 
-aix-filled : (fill_answer aix.signature (fill_lengths aix.values (replicate 512 7) aix.area aix.copies) aix.base aix.hidden ≡ CallAnswer.Done)
+aix-filled : (fill_answer aix.signature (fill_lengths aix.values (replicate 512 7) aix.area aix.copies) aix.base aix.hidden ≡ call_done)
     × ((plan_for aix.signature).convention ≡ Convention.Aix) × ((plan_for aix.signature).area ≡ 36)
 unfolding round_up with_field shape_of type_of count_of listed table body_at integer_code float_code integer_at float_of float_at sequence sized_at contents_at item_by struct_at item_at convention_code convention_at result_in result_at arguments_in arguments_at ellipsis_at after_ellipsis after_result after_convention signature_of with_ellipsis words fprs share_of power_share unclear z_class z_span_of z_next_of span_of next_of unclear_for fresh_cursor start_of area_of hidden_for returning result_of up_from spans_of last_of values_of table_of plan_in types_of plan_answer first_unclear called bad_copies fill_tests first_of fill_answer
 aix-filled = (refl, refl, refl)
@@ -328,7 +329,7 @@ ppc64b = record {
   puts = write_register 1 1 72623859790382856 ∷ write_register 1 2 651345242494996240 ∷ write_register 0 5 5 ∷ write_memory 4672 (replicate 64 9) ∷ [];
 }
 
-ppc64b-filled : (fill_answer ppc64b.signature (fill_lengths ppc64b.values (replicate 512 7) ppc64b.area ppc64b.copies) ppc64b.base ppc64b.hidden ≡ CallAnswer.Done)
+ppc64b-filled : (fill_answer ppc64b.signature (fill_lengths ppc64b.values (replicate 512 7) ppc64b.area ppc64b.copies) ppc64b.base ppc64b.hidden ≡ call_done)
     × ((plan_for ppc64b.signature).convention ≡ Convention.Ppc64b) × ((plan_for ppc64b.signature).area ≡ 64)
 unfolding round_up with_field shape_of type_of count_of listed table body_at integer_code float_code integer_at float_of float_at sequence sized_at contents_at item_by struct_at item_at convention_code convention_at result_in result_at arguments_in arguments_at ellipsis_at after_ellipsis after_result after_convention signature_of with_ellipsis words fprs share_of power_share unclear z_class z_span_of z_next_of span_of next_of unclear_for fresh_cursor start_of area_of hidden_for returning result_of up_from spans_of last_of values_of table_of plan_in types_of plan_answer first_unclear called bad_copies fill_tests first_of fill_answer
 ppc64b-filled = (refl, refl, refl)
@@ -376,7 +377,7 @@ ellipsis = record {
   puts = write_register 0 3 1 ∷ write_register 0 4 2 ∷ write_register 0 5 3 ∷ write_register 0 6 4 ∷ write_register 0 7 5 ∷ write_register 0 8 6 ∷ write_register 0 9 7 ∷ write_register 1 1 4614256656552045848 ∷ write_register 0 10 1074340347 ∷ write_memory 4632 (replicate 32 9 ++ (84 ∷ 68 ∷ 45 ∷ 24 ∷ [])) ∷ [];
 }
 
-ellipsis-filled : (fill_answer ellipsis.signature (fill_lengths ellipsis.values (replicate 512 7) ellipsis.area ellipsis.copies) ellipsis.base ellipsis.hidden ≡ CallAnswer.Done)
+ellipsis-filled : (fill_answer ellipsis.signature (fill_lengths ellipsis.values (replicate 512 7) ellipsis.area ellipsis.copies) ellipsis.base ellipsis.hidden ≡ call_done)
     × ((plan_for ellipsis.signature).convention ≡ Convention.Aix) × ((plan_for ellipsis.signature).area ≡ 36)
 unfolding round_up with_field shape_of type_of count_of listed table body_at integer_code float_code integer_at float_of float_at sequence sized_at contents_at item_by struct_at item_at convention_code convention_at result_in result_at arguments_in arguments_at ellipsis_at after_ellipsis after_result after_convention signature_of with_ellipsis words fprs share_of power_share unclear z_class z_span_of z_next_of span_of next_of unclear_for fresh_cursor start_of area_of hidden_for returning result_of up_from spans_of last_of values_of table_of plan_in types_of plan_answer first_unclear called bad_copies fill_tests first_of fill_answer
 ellipsis-filled = (refl, refl, refl)
@@ -409,12 +410,12 @@ ellipsis-computed =
 -- ---- what the theorem says of them
 
 -- every start, and both callers, are accepted
-starts-are : ((start_outcome Convention.Ppc64 4096 640 (registers_in (replicate registers_words 7) 0)).answer ≡ Accepted)
-    × ((start_outcome Convention.Z 4096 640 (registers_in (replicate registers_words 7) 0)).answer ≡ Accepted)
-    × ((start_outcome Convention.Aix 4096 640 (registers_in (replicate registers_words 7) 0)).answer ≡ Accepted)
-    × ((start_outcome Convention.Ppc64b 4096 640 (registers_in (replicate registers_words 7) 0)).answer ≡ Accepted)
-    × (answer (enter (6 ∷ 16 ∷ 0 ∷ 16 ∷ 8 ∷ 0 ∷ [])) (start Convention.Z) ≡ Accepted)
-    × (answer (enter (32 ∷ 32 ∷ 0 ∷ 0 ∷ 40 ∷ 0 ∷ [])) (start Convention.Aix) ≡ Accepted)
+starts-are : ((start_outcome Convention.Ppc64 4096 640 (registers_in (replicate registers_words 7) 0)).answer ≡ Ok tt)
+    × ((start_outcome Convention.Z 4096 640 (registers_in (replicate registers_words 7) 0)).answer ≡ Ok tt)
+    × ((start_outcome Convention.Aix 4096 640 (registers_in (replicate registers_words 7) 0)).answer ≡ Ok tt)
+    × ((start_outcome Convention.Ppc64b 4096 640 (registers_in (replicate registers_words 7) 0)).answer ≡ Ok tt)
+    × (answer (enter (6 ∷ 16 ∷ 0 ∷ 16 ∷ 8 ∷ 0 ∷ [])) (start Convention.Z) ≡ Ok tt)
+    × (answer (enter (32 ∷ 32 ∷ 0 ∷ 0 ∷ 40 ∷ 0 ∷ [])) (start Convention.Aix) ≡ Ok tt)
 unfolding round_up overlay splice bytes_of value_of convention_code store load save_run with_pointer all_within lowered ok_registers cleared ok_leaf ok_request below full_size frame_size chain_width gpr_at saves_by bank_of writable_register with_register judge top_frame caller_frame ok_frames sizes ok_memory ok_state start_answer started started_memory enter_answer entered entered_memory writable_bytes writable_address write_register_answer write_memory_answer written_register written_memory start_outcome start_memory enter_outcome enter_memory write_register_outcome write_memory_outcome write_memory_memory is_machine depth_in registers_in frame_in frames_in state_in register_words frame_words frames_words state_words changed start_words enter_words write_register_words run
 starts-are = (refl, refl, refl, refl, refl, refl)
 
@@ -431,13 +432,13 @@ z-frame = 14 ∷ 16 ∷ 0 ∷ 0 ∷ 0 ∷ 0 ∷ []
 abbrev z-puts : List Call
 z-puts = z.puts ++ (write_memory 4560 (101 ∷ 102 ∷ 103 ∷ 104 ∷ 105 ∷ 106 ∷ 107 ∷ 108 ∷ 109 ∷ 110 ∷ 111 ∷ 112 ∷ 113 ∷ 114 ∷ 115 ∷ 116 ∷ []) ∷ [])
 
-enters-are : (answer (enter frame) (run ppc64.puts ppc64.m) ≡ Accepted)
-    × (answer (enter leaf) (run ppc64.puts ppc64.m) ≡ Accepted)
-    × (answer (enter frame) (run aix.puts aix.m) ≡ Accepted)
-    × (answer (enter leaf) (run aix.puts aix.m) ≡ Accepted)
-    × (answer (enter leaf) (run ppc64b.puts ppc64b.m) ≡ Accepted)
-    × (answer (enter leaf) (run ellipsis.puts ellipsis.m) ≡ Accepted)
-    × (answer (enter z-frame) (run z-puts z.m) ≡ Accepted)
+enters-are : (answer (enter frame) (run ppc64.puts ppc64.m) ≡ Ok tt)
+    × (answer (enter leaf) (run ppc64.puts ppc64.m) ≡ Ok tt)
+    × (answer (enter frame) (run aix.puts aix.m) ≡ Ok tt)
+    × (answer (enter leaf) (run aix.puts aix.m) ≡ Ok tt)
+    × (answer (enter leaf) (run ppc64b.puts ppc64b.m) ≡ Ok tt)
+    × (answer (enter leaf) (run ellipsis.puts ellipsis.m) ≡ Ok tt)
+    × (answer (enter z-frame) (run z-puts z.m) ≡ Ok tt)
 unfolding round_up overlay splice bytes_of value_of convention_code store load save_run with_pointer all_within lowered ok_registers cleared ok_leaf ok_request below full_size frame_size chain_width gpr_at saves_by bank_of writable_register with_register judge top_frame caller_frame ok_frames sizes ok_memory ok_state start_answer started started_memory enter_answer entered entered_memory writable_bytes writable_address write_register_answer write_memory_answer written_register written_memory start_outcome start_memory enter_outcome enter_memory write_register_outcome write_memory_outcome write_memory_memory is_machine depth_in registers_in frame_in frames_in state_in register_words frame_words frames_words state_words changed start_words enter_words write_register_words run
 enters-are = (refl, refl, refl, refl, refl, refl, refl)
 

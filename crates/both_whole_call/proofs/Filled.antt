@@ -38,7 +38,6 @@ use Rattle.sig_signatures.specs.Types.{types_of}
 use Rattle.plan_plans.specs.Call.{outcome_for}
 use Rattle.call_registers.specs.Registers.{in_register, spread}
 use Rattle.call_registers.proofs.Registers.{spread-short}
-use Rattle.call_slots.specs.declared.CallAnswer.{CallAnswer}
 use Rattle.call_slots.specs.Buffers.{Buffers, bytes_at}
 use Rattle.call_slots.specs.Forms.{starts_at_head, extended, room_of, home_bytes, single_word, float_form, float_bytes}
 use Rattle.call_slots.specs.Placements.{Placement, placements, standing}
@@ -55,6 +54,7 @@ use Rattle.frame_rules.proofs.Conventions.{lawful}
 use Rattle.both_meeting.proofs.Theorem.{agree}
 use Rattle.both_whole_call.specs.Put.{Register, image_at, in_image, hidden_spans, named}
 use Rattle.both_whole_call.proofs.Named.{OfSpan, in-spans, hidden-one}
+use Rattle.call_slots.specs.Answer.{call_done}
 
 -- an image has bytes for a register, and for a general one a number of a word of w bytes
 abbrev pub Low : ℕ → Bank → ℕ → Type 0
@@ -206,7 +206,7 @@ pub hidden-low : (s values image area copies : List ℕ) (base hidden : ℕ) (x 
 unfolding fill_answer
 hidden-low s values image area copies base hidden x h e =
     let w : ℕ = word_of (rules_for s) in
-    let low = tests-low _ _ _ _ _ _ (reading-done (outcome_for s) _ h.accepted CallAnswer.Done refl).0 in
+    let low = tests-low _ _ _ _ _ _ (reading-done (outcome_for s) _ h.accepted call_done refl).0 in
     let most : hidden ≤ 2 ^ (8 * w) - 1 = ltb-false (2 ^ (8 * w) - 1) hidden (subst (λ (q : ResultPlaces). high_address w q hidden ≡ false) e low) in
     omega (arith, pow_pos (8 * w))
 

@@ -17,7 +17,7 @@ use Rattle.frame_rules.specs.Rules.{rules}
 use Rattle.frame_rules.specs.Frames.{outgoing_length, below, frame_size}
 use Rattle.frame_rules.specs.Helpers.{LawfulFrames}
 use Rattle.frame_rules.proofs.Places.{size-parts}
-use Rattle.frame_machine.specs.declared.FrameAnswer.TheVariants.{Accepted}
+use Rattle.std.specs.Prelude.{Ok}
 use Rattle.frame_machine.specs.declared.FrameRefusal.TheVariants.{NotPermitted}
 use Rattle.frame_machine.specs.declared.State.{State}
 use Rattle.frame_machine.specs.Answers.{require, judge}
@@ -110,17 +110,17 @@ module _ (c : Convention) (os : List OpenEnter) (m : Machine) (i : Invariant (ru
   base : Base k m
   base = base-of k os m i
 
-  allowed : write_memory_answer k m.state (length m.memory) a (length bs) ≡ Accepted
+  allowed : write_memory_answer k m.state (length m.memory) a (length bs) ≡ Ok tt
   unfolding write_memory_answer judge
   allowed =
       judge-next (state_tests k m.state (length m.memory)) (require (writable_address k m.state a (length bs)) NotPermitted ∷ [])
       (state-accepted k m.state (length m.memory) base.sound)
       ∙ rw may
 
-  judged : write_memory_answer (state_rules m.state) m.state (length m.memory) a (length bs) ≡ Accepted
-  judged = subst (λ (r : FrameRules). write_memory_answer r m.state (length m.memory) a (length bs) ≡ Accepted) (sym base.rules) allowed
+  judged : write_memory_answer (state_rules m.state) m.state (length m.memory) a (length bs) ≡ Ok tt
+  judged = subst (λ (r : FrameRules). write_memory_answer r m.state (length m.memory) a (length bs) ≡ Ok tt) (sym base.rules) allowed
 
-  put-accepted : answer (write_memory a bs) m ≡ Accepted
+  put-accepted : answer (write_memory a bs) m ≡ Ok tt
   unfolding write_memory_outcome
   put-accepted = judged
 

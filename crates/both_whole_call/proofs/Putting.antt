@@ -24,7 +24,7 @@ use Rattle.frame_rules.specs.declared.Frame.{Frame}
 use Rattle.frame_rules.specs.Rules.{rules}
 use Rattle.frame_rules.specs.Frames.{outgoing_length}
 use Rattle.frame_rules.proofs.Conventions.{lawful}
-use Rattle.frame_machine.specs.declared.FrameAnswer.TheVariants.{Accepted}
+use Rattle.std.specs.Prelude.{Ok}
 use Rattle.frame_machine.specs.declared.State.{State}
 use Rattle.frame_machine.specs.Machine.{stack_pointer, offset}
 use Rattle.frame_history.specs.Calls.{Call, enter, Machine, answer}
@@ -215,7 +215,7 @@ module _ (s values image area copies : List ℕ) (base hidden : ℕ) (filled : F
     all-run = run-both puts (put_pieces base more) m ∙ ap (run (put_pieces base more)) puts-run
 
     -- the enter of a callee leaves them
-    copies-found : (f : Frame) → answer (enter f) (run all m) ≡ Accepted → bytes_in base p.copies (in_callee all m f) ≡ take p.copies b.copies
+    copies-found : (f : Frame) → answer (enter f) (run all m) ≡ Ok tt → bytes_in base p.copies (in_callee all m f) ≡ take p.copies b.copies
     copies-found f e =
         let kept : Invariant k os (run all m) = rw all-run third.invariant in
         let state : (run all m).state ≡ m₂.state = ap (λ (y : Machine). y.state) all-run ∙ third.state in

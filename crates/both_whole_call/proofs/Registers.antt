@@ -19,7 +19,7 @@ use Rattle.frame_rules.specs.Frames.{bank_of, writable, writable_register, with_
 use Rattle.frame_rules.specs.Helpers.{LawfulFrames}
 use Rattle.frame_rules.proofs.Conventions.{lawful, writable-lt}
 use Rattle.frame_rules.proofs.Places.{limit-64}
-use Rattle.frame_machine.specs.declared.FrameAnswer.TheVariants.{Accepted}
+use Rattle.std.specs.Prelude.{Ok}
 use Rattle.frame_machine.specs.declared.FrameRefusal.TheVariants.{NotPermitted}
 use Rattle.frame_machine.specs.Answers.{require, judge}
 use Rattle.frame_machine.specs.Machine.{state_rules, stack_pointer, top, sizes, state_tests, write_register_answer, written_register, write_register_outcome}
@@ -106,7 +106,7 @@ module _ (c : Convention) (os : List OpenEnter) (image : List ℕ) where
     base : Base k m
     base = base-of k os m i
 
-    allowed : write_register_answer k m.state (length m.memory) (bank_number y.bank) y.number (in_image image y) ≡ Accepted
+    allowed : write_register_answer k m.state (length m.memory) (bank_number y.bank) y.number (in_image image y) ≡ Ok tt
     unfolding write_register_answer judge
     allowed =
         let v : ℕ = in_image image y in
@@ -114,11 +114,11 @@ module _ (c : Convention) (os : List OpenEnter) (image : List ℕ) where
         (state-accepted k m.state (length m.memory) base.sound)
         ∙ rw (top-is k os m i, free-writable k (caller_of k os) y v p.0 p.1)
 
-    judged : write_register_answer (state_rules m.state) m.state (length m.memory) (bank_number y.bank) y.number (in_image image y) ≡ Accepted
+    judged : write_register_answer (state_rules m.state) m.state (length m.memory) (bank_number y.bank) y.number (in_image image y) ≡ Ok tt
     judged =
-        subst (λ (r : FrameRules). write_register_answer r m.state (length m.memory) (bank_number y.bank) y.number (in_image image y) ≡ Accepted) (sym base.rules) allowed
+        subst (λ (r : FrameRules). write_register_answer r m.state (length m.memory) (bank_number y.bank) y.number (in_image image y) ≡ Ok tt) (sym base.rules) allowed
 
-    put-accepted : answer (write_of image y) m ≡ Accepted
+    put-accepted : answer (write_of image y) m ≡ Ok tt
     unfolding write_register_outcome
     put-accepted = judged
 

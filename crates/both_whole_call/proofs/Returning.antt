@@ -1,4 +1,5 @@
 -- A leave leaves the result in its registers: no frame saves them, so none is restored. Assumes nothing.
+use Rattle.std.proofs.Common.{Some, None, Option}
 use mathlib.Core.Path.{◌≡◌, refl, ◌∙◌}
 use mathlib.Core.Bool.{Bool, true, false}
 use mathlib.Core.List.{List, [], ◌∷◌}
@@ -12,7 +13,6 @@ use Rattle.base_conventions.specs.declared.Convention.{Convention}
 use Rattle.sig_types.specs.declared.ValueType.{ValueType}
 use Rattle.sig_types.specs.Sizes.{size_of}
 use Rattle.sig_items.specs.Reading.{Reading, got, no}
-use Rattle.sig_signatures.specs.declared.ResultType.{ResultType}
 use Rattle.sig_signatures.specs.Signature.{Signature}
 use Rattle.sig_signatures.specs.Read.{signature_of}
 use Rattle.sig_signatures.specs.Answer.{result_type}
@@ -35,7 +35,7 @@ use Rattle.frame_rules.specs.declared.Registers.{Registers}
 use Rattle.frame_rules.specs.Rules.{rules}
 use Rattle.frame_rules.specs.Frames.{ok_request, frame_size, gpr_save, fpr_save, restored}
 use Rattle.frame_rules.proofs.Places.{ranges}
-use Rattle.frame_machine.specs.declared.FrameAnswer.TheVariants.{Accepted}
+use Rattle.std.specs.Prelude.{Ok}
 use Rattle.frame_machine.specs.declared.State.{State}
 use Rattle.frame_machine.specs.Machine.{stack_pointer, offset, top, left, leave_outcome}
 use Rattle.frame_history.specs.Calls.{leave, Machine, answer, after}
@@ -84,10 +84,10 @@ held-result Convention.Z t n = z-result (z_class t n) n
 held-result Convention.Aix t n = power-result (rules Convention.Aix) (omega arith) (omega arith) refl _ t n
 held-result Convention.Ppc64b t n = power-result (rules Convention.Ppc64b) (omega arith) (omega arith) refl _ t n
 
-result-in : (c : Convention) (r : ResultType) → All (OfSpan (Volatile (rules c))) (result_spans (result_places_in c r))
+result-in : (c : Convention) (r : Option ValueType) → All (OfSpan (Volatile (rules c))) (result_spans (result_places_in c r))
 unfolding result_of All
-result-in c ResultType.Nothing = tt
-result-in c (ResultType.Value t) = go (hidden_for (rules_of c) t)
+result-in c None = tt
+result-in c (Some t) = go (hidden_for (rules_of c) t)
   where
     go : (b : Bool)
         → All (OfSpan (Volatile (rules c)))
@@ -118,7 +118,7 @@ least-saved : (k : FrameRules) (f : Frame) → ok_request k f ≡ true → (b : 
 least-saved k f e Bank.General = (ranges k f e).gpr.0
 least-saved k f e Bank.Floating = (ranges k f e).fpr.0
 
-pub leave-result : (k : FrameRules) (o : OpenEnter) (os : List OpenEnter) (m : Machine) → Invariant k (o ∷ os) m → answer leave m ≡ Accepted
+pub leave-result : (k : FrameRules) (o : OpenEnter) (os : List OpenEnter) (m : Machine) → Invariant k (o ∷ os) m → answer leave m ≡ Ok tt
     → (x : Register) → Volatile k x → held_in (after leave m).state.registers x ≡ held_in m.state.registers x
 unfolding leave_outcome left
 leave-result k o os m i e x v =

@@ -7,7 +7,7 @@ use Rattle.base_conventions.specs.declared.Convention.{Convention}
 use Rattle.frame_rules.specs.declared.FrameRules.{FrameRules}
 use Rattle.frame_rules.specs.Rules.{rules}
 use Rattle.frame_rules.proofs.Conventions.{lawful}
-use Rattle.frame_machine.specs.declared.FrameAnswer.TheVariants.{Accepted}
+use Rattle.std.specs.Prelude.{Ok}
 use Rattle.frame_machine.specs.Machine.{leave_answer, leave_outcome}
 use Rattle.frame_history.specs.Calls.{Call, leave, Machine, answer, after}
 use Rattle.frame_history.specs.Preserved.{OpenEnter, open_after, Preserved, CallFits, CallsFit}
@@ -22,7 +22,7 @@ run (c ∷ cs) m = run cs (after c m)
 
 unfoldable pub AllAccepted : List Call → Machine → Type 0
 AllAccepted [] m = Unit {0}
-AllAccepted (c ∷ cs) m = (answer c m ≡ Accepted) × AllAccepted cs (after c m)
+AllAccepted (c ∷ cs) m = (answer c m ≡ Ok tt) × AllAccepted cs (after c m)
 
 unfoldable pub opened_by : List Call → Machine → List OpenEnter → List OpenEnter
 opened_by [] m os = os
@@ -42,13 +42,13 @@ calls-keep c (x ∷ xs) w os m i = calls-keep c xs w.1 (open_after x (answer x m
 
 -- a leave with an enter open is accepted, and preserves
 pub leave-holds : (c : Convention) (o : OpenEnter) (os : List OpenEnter) (m : Machine) → Invariant (rules c) (o ∷ os) m
-    → (answer leave m ≡ Accepted) × Preserved (rules c) o os (after leave m)
+    → (answer leave m ≡ Ok tt) × Preserved (rules c) o os (after leave m)
 unfolding leave_outcome
 leave-holds c o os m i =
     let k : FrameRules = rules c in
-    let e : answer leave m ≡ Accepted
-    = subst (λ (r : FrameRules). leave_answer r m.state m.memory ≡ Accepted) (sym i.0.rules) (leave-accepted k (lawful c) o os m i) in
-    (e, (step k (lawful c) leave tt (o ∷ os) m i Accepted e).0)
+    let e : answer leave m ≡ Ok tt
+    = subst (λ (r : FrameRules). leave_answer r m.state m.memory ≡ Ok tt) (sym i.0.rules) (leave-accepted k (lawful c) o os m i) in
+    (e, (step k (lawful c) leave tt (o ∷ os) m i (Ok tt) e).0)
 
 -- ---- two lists of calls one after the other
 

@@ -13,8 +13,8 @@ use Rattle.call_slots.specs.Arguments.{plan_for, rules_for}
 use Rattle.call_home_slot.specs.Homes.{homeless}
 use Rattle.frame_rules.specs.declared.Frame.{Frame}
 use Rattle.frame_rules.specs.Rules.{rules}
-use Rattle.frame_machine.specs.declared.FrameAnswer.{FrameAnswer}
-use Rattle.frame_machine.specs.declared.FrameAnswer.TheVariants.{Accepted}
+use Rattle.frame_machine.specs.Answers.{FrameAnswer}
+use Rattle.std.specs.Prelude.{Ok}
 use Rattle.frame_machine.specs.Machine.{start_outcome}
 use Rattle.frame_word_layout.specs.Words.{machine_words, registers_in, frame_in}
 use Rattle.frame_word_layout.proofs.Theorems.{start-state}
@@ -179,7 +179,7 @@ module _ (s values : List ℕ) (copies : states.Machine → List ℕ) (base hidd
   put : Reached c os (run puts m)
   put = subst (λ (l : List OpenEnter). Reached c l (run puts m)) opens (reached-more c os m can.reached puts k.fit)
 
-  module _ (q : List ℕ) (e : answer (enter q) (run puts m) ≡ Accepted) where
+  module _ (q : List ℕ) (e : answer (enter q) (run puts m) ≡ Ok tt) where
     abbrev f : Frame
     f = frame_in q 0
 
@@ -190,7 +190,7 @@ module _ (s values : List ℕ) (copies : states.Machine → List ℕ) (base hidd
     o = calling puts m q
 
     -- the same enter of the machine's own
-    accepts : states.answer (states.enter f) (steps.run (calls_in puts) (machine_in m)) ≡ Accepted
+    accepts : states.answer (states.enter f) (steps.run (calls_in puts) (machine_in m)) ≡ Ok tt
     accepts = ap (states.answer (states.enter f)) (sym ran) ∙ e
 
     entered : machine_in m' ≡ callee.in_callee (calls_in puts) (machine_in m) f

@@ -1,9 +1,8 @@
 -- The caller: when a running function can make a call, and that one can which asked for it when it was entered (`AskedCanCall`, which proofs/Caller.antt proves). Document 01,
 -- "Frames"; document 02, No. 1 and No. 9. Assumes nothing.
-use Rattle.std.specs.Prelude.{ℕ, ◌+◌, ◌≤◌, ◌≡◌, true, false, List, [], ◌∷◌}
+use Rattle.std.specs.Prelude.{ℕ, ◌+◌, ◌≤◌, ◌≡◌, true, false, List, [], ◌∷◌, Ok}
 use Rattle.base_words.specs.Basics.{All}
 use Rattle.base_conventions.specs.declared.Convention.{Convention}
-use Rattle.sig_signatures.specs.declared.Outcome.{Outcome}
 use Rattle.plan_places.specs.declared.Bank.{Bank}
 use Rattle.plan_plans.specs.declared.Plan.{Plan}
 use Rattle.plan_plans.specs.Call.{outcome_for}
@@ -61,6 +60,6 @@ SavedSix p f = p.convention ≡ Convention.Z → All (λ (x : Register). x ≡ r
 -- A running function that is no leaf and asked for the area of an accepted call, rounded up to a multiple of 8, and on Z saved r6 where the call uses it, can make that call. An
 -- enter accepts such a request wherever it accepts the request with another area (`AreaRequested`, crates/both_meeting) and has the room.
 abbrev pub AskedCanCall : Type 0
-AskedCanCall = (s : List ℕ) (n : ℕ) → outcome_for s ≡ Outcome.Accepted n → (f : Frame) → f.leaf ≡ false → SavedSix (plan_for s) f
+AskedCanCall = (s : List ℕ) (n : ℕ) → outcome_for s ≡ Ok n → (f : Frame) → f.leaf ≡ false → SavedSix (plan_for s) f
     → (os : List OpenEnter) (m : Lent) → Reached (plan_for s).convention os m → caller_of (rules (plan_for s).convention) os ≡ asking f (asked_area (plan_for s))
     → CanCall (plan_for s) os m

@@ -1,7 +1,7 @@
 -- A whole call: what the caller fills is what the callee reads, through the frame machine, and once the callee has left all that must be kept is kept. `WholeCall` is the claim,
 -- of the exported calls; `whole-call` in proofs/Theorem.antt is a value of it. The machine is what C lends, 262 words and a memory; the state is what the words are read as. The
 -- buffers are those of `fz_fill`, `fz_read`, `fz_home` and `fz_view`. Assumes nothing.
-use Rattle.std.specs.Prelude.{ℕ, ◌≡◌, false, List, [], ◌∷◌, ◌++◌, length, get_or, take}
+use Rattle.std.specs.Prelude.{ℕ, ◌≡◌, false, List, [], ◌∷◌, ◌++◌, length, get_or, take, Ok}
 use Rattle.base_words.specs.Basics.{All}
 use Rattle.plan_places.specs.declared.Span.{Span}
 use Rattle.plan_places.specs.declared.ResultPlaces.{ResultPlaces}
@@ -14,7 +14,6 @@ use Rattle.call_roundtrip.specs.Views.{homed_area, Viewed}
 use Rattle.frame_rules.specs.declared.FrameRules.{FrameRules}
 use Rattle.frame_rules.specs.declared.Frame.{Frame}
 use Rattle.frame_rules.specs.Rules.{rules}
-use Rattle.frame_machine.specs.declared.FrameAnswer.TheVariants.{Accepted}
 use Rattle.frame_word_layout.specs.Words.{frame_in}
 use Rattle.frame_history.specs.Calls.{Machine}
 use Rattle.frame_history.specs.Preserved.{OpenEnter, Preserved, CallsFit}
@@ -51,7 +50,7 @@ pub record CalleeHomes (s values copies : List ℕ) (f : Frame) (m : Lent) : Typ
 -- As the callee of the enter o is about to leave: the leave is accepted and keeps all that demand 3 says, and a result that stands in its registers stays there. What is lent then
 -- was reached with the same enters open, so that the caller can make its next call.
 pub record ReturnedToCaller (p : Plan) (o : OpenEnter) (os : List OpenEnter) (m : Lent) : Type 0 where
-  pub accepted : answer leave m ≡ Accepted
+  pub accepted : answer leave m ≡ Ok tt
   pub kept : Preserved (rules p.convention) o os (machine_in (after leave m))
   pub result : All (λ (x : Register). held_in (machine_in (after leave m)).state.registers x ≡ held_in (machine_in m).state.registers x) (span_registers (result_spans p.result))
   pub reached : Reached p.convention os (after leave m)
@@ -72,14 +71,14 @@ pub record Claims (s values : List ℕ) (copies : Machine → List ℕ) (base hi
   pub opened : opened_by puts m os ≡ os
   pub fit : CallsFit (calls_in puts)
   -- after any accepted enter, of a frame or of a leaf, the callee has its arguments, and can call in turn
-  pub passed : (q : List ℕ) → answer (enter q) (run puts m) ≡ Accepted
+  pub passed : (q : List ℕ) → answer (enter q) (run puts m) ≡ Ok tt
       → PassedToCallee s values (copies (machine_in (in_callee puts m q))) base hidden (frame_in q 0) (machine_in (in_callee puts m q))
-  pub homed : homeless (rules_for s) ≡ false → (q : List ℕ) → answer (enter q) (run puts m) ≡ Accepted
+  pub homed : homeless (rules_for s) ≡ false → (q : List ℕ) → answer (enter q) (run puts m) ≡ Ok tt
       → CalleeHomes s values (copies (machine_in (in_callee puts m q))) (frame_in q 0) (in_callee puts m q)
-  pub reached : (q : List ℕ) → answer (enter q) (run puts m) ≡ Accepted
+  pub reached : (q : List ℕ) → answer (enter q) (run puts m) ≡ Ok tt
       → Reached (plan_for s).convention (calling puts m q ∷ os) (in_callee puts m q)
   -- and whatever it calls then, accepted or refused, once it has closed what it opened it can leave
-  pub returned : (q : List ℕ) → answer (enter q) (run puts m) ≡ Accepted → (body : List Call) → CallsFit (calls_in body)
+  pub returned : (q : List ℕ) → answer (enter q) (run puts m) ≡ Ok tt → (body : List Call) → CallsFit (calls_in body)
       → opened_by body (in_callee puts m q) (calling puts m q ∷ os) ≡ calling puts m q ∷ os
       → ReturnedToCaller (plan_for s) (calling puts m q) os (run body (in_callee puts m q))
 

@@ -1,10 +1,9 @@
 // The answer of an exported function, as C and Rust see it: `fz_answer` of include/flakuzhen.h, the same in every bridge.
-
-// Number 0 is yes.
 #![tactic(auto)]
 
+// Number 0 is yes; the others are the refusals' numbers, as C has them.
 #[repr(C)]
-#[derive(Clone, Copy)]
+#[derive(Clone, Copy, Debug, PartialEq, Eq)]
 pub struct Answer {
     pub number: u64,
     pub place: u64,

@@ -7,9 +7,9 @@ ghost use Rattle.frame_rules.specs.Rules.{rules};
 ghost use Rattle.frame_dump.specs.Walk.{walk_into, counted, frames_listed};
 ghost use Rattle.c_dump.specs.Dump.{walked_answer};
 
-use both_abi::{Aix, Ppc64, Z};
+use base_conventions::Convention;
 use c_answers::Answer;
-use frame_dump::Found;
+use frame_dump::WalkRefusal;
 
 // `fz_walked` of include/flakuzhen.h.
 #[repr(C)]
@@ -19,11 +19,12 @@ pub struct WalkedDump {
     pub count: u64,
 }
 
-fn walked_of(f: Found) -> WalkedDump
-    ensures { result ≡ walked_answer f }
+#[tactic(auto, unfolding(crate::specs::Dump::walked_answer))]
+fn walked_of(found: Result<usize, WalkRefusal>) -> WalkedDump
+    ensures { result ≡ walked_answer found }
 {
-    match f {
-        Found::Frames(n) => WalkedDump {
+    match found {
+        Ok(n) => WalkedDump {
             answer: Answer {
                 number: 0,
                 place: 0,
@@ -31,15 +32,24 @@ fn walked_of(f: Found) -> WalkedDump
             },
             count: n as u64,
         },
-        Found::Refused(r) => WalkedDump {
+        Err(refusal) => WalkedDump {
             answer: Answer {
-                number: frame_dump::walk_refusal_number(r),
-                place: frame_dump::refusal_place(r),
+                number: u64::from(refusal),
+                place: frame_dump::refusal_place(refusal),
                 items: 0,
             },
             count: 0,
         },
     }
+}
+
+// The walk by a convention's rules.
+fn walk_by(c: Convention, memory: &[u8], base: u64, pointer: u64, list: &mut [u64]) -> WalkedDump
+    ensures value { result ≡ walked_answer (counted 0 (walk_into (rules c) base memory.now pointer (length list.old))) }
+    ensures list_after { list.new ≡ frames_listed (walk_into (rules c) base memory.now pointer (length list.old)) list.old }
+{
+    let k = both_abi::frame_rules_of(c);
+    walked_of(frame_dump_walk::walk(memory, k, base, pointer, list))
 }
 
 #[unsafe(no_mangle)]
@@ -52,9 +62,7 @@ pub extern "C" fn fz_walk_dump_ppc64(
     ensures value { result ≡ walked_answer (counted 0 (walk_into (rules convention.Ppc64) base memory.now pointer (length list.old))) }
     ensures list_after { list.new ≡ frames_listed (walk_into (rules convention.Ppc64) base memory.now pointer (length list.old)) list.old }
 {
-    let k = Ppc64::frame_rules();
-    let f = frame_dump_walk::walk(memory, k, base, pointer, list);
-    walked_of(f)
+    walk_by(Convention::Ppc64, memory, base, pointer, list)
 }
 
 #[unsafe(no_mangle)]
@@ -67,9 +75,7 @@ pub extern "C" fn fz_walk_dump_z(
     ensures value { result ≡ walked_answer (counted 0 (walk_into (rules convention.Z) base memory.now pointer (length list.old))) }
     ensures list_after { list.new ≡ frames_listed (walk_into (rules convention.Z) base memory.now pointer (length list.old)) list.old }
 {
-    let k = Z::frame_rules();
-    let f = frame_dump_walk::walk(memory, k, base, pointer, list);
-    walked_of(f)
+    walk_by(Convention::Z, memory, base, pointer, list)
 }
 
 #[unsafe(no_mangle)]
@@ -82,7 +88,5 @@ pub extern "C" fn fz_walk_dump_aix(
     ensures value { result ≡ walked_answer (counted 0 (walk_into (rules convention.Aix) base memory.now pointer (length list.old))) }
     ensures list_after { list.new ≡ frames_listed (walk_into (rules convention.Aix) base memory.now pointer (length list.old)) list.old }
 {
-    let k = Aix::frame_rules();
-    let f = frame_dump_walk::walk(memory, k, base, pointer, list);
-    walked_of(f)
+    walk_by(Convention::Aix, memory, base, pointer, list)
 }

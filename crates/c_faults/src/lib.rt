@@ -7,12 +7,12 @@ ghost use Rattle.c_faults.specs.Faults.{fault_answer};
 use c_answers::Answer;
 use sig_items::Fault;
 
+// It is no `From`: both types are other crates' own.
 pub fn fault_answer(f: Fault) -> Answer
     ensures { result ≡ fault_answer f }
 {
-    let reason = f.reason;
     Answer {
-        number: sig_items::refusal_number(reason),
+        number: u64::from(f.reason),
         place: f.place as u64,
         items: f.passed as u64,
     }

@@ -5,9 +5,9 @@ ghost use Rattle.std.specs.Prelude.{◌≡◌};
 ghost use Rattle.c_frame_answers.specs.Frames.{frame_answer};
 
 use c_answers::Answer;
-use frame_machine::FrameAnswer;
+use frame_machine::FrameRefusal;
 
-pub fn answer_of(a: FrameAnswer) -> Answer
+pub fn answer_of(a: Result<(), FrameRefusal>) -> Answer
     ensures { result ≡ frame_answer a }
 {
     Answer {

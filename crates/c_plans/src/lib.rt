@@ -9,7 +9,6 @@ ghost use Rattle.plan_words.specs.Entries.{entries_of};
 ghost use Rattle.c_plans.specs.Plans.{sizes_answer, planned_answer};
 
 use c_answers::Answer;
-use sig_signatures::Outcome;
 
 // `fz_sizes`: the bytes that the values, the parameter area and the copies of a call take.
 #[repr(C)]
@@ -48,9 +47,8 @@ pub extern "C" fn fz_measure(sig: &[u8]) -> Sizes
     let values = m.values as u64;
     let area = m.area as u64;
     let copies = m.copies as u64;
-    let outcome = m.outcome;
-    match outcome {
-        Outcome::Accepted(_) => Sizes {
+    match m.outcome {
+        Ok(_) => Sizes {
             answer: Answer {
                 number: 0,
                 place: 0,
@@ -60,7 +58,7 @@ pub extern "C" fn fz_measure(sig: &[u8]) -> Sizes
             area,
             copies,
         },
-        Outcome::Refused(fault) => Sizes {
+        Err(fault) => Sizes {
             answer: c_faults::fault_answer(fault),
             values: 0,
             area: 0,
@@ -75,9 +73,8 @@ pub extern "C" fn fz_plan(sig: &[u8], places: &mut [u64]) -> PlanAnswer
     ensures { (result ≡ planned_answer (call_of sig.now)) × (places.new ≡ overlay_whole places.old (entries_of (call_of sig.now))) }
 {
     let p = plan_words::plan_words(sig, places);
-    let outcome = p.outcome;
-    match outcome {
-        Outcome::Refused(fault) => PlanAnswer {
+    match p.outcome {
+        Err(fault) => PlanAnswer {
             answer: c_faults::fault_answer(fault),
             convention: 0,
             ellipsis: 0,
@@ -91,8 +88,7 @@ pub extern "C" fn fz_plan(sig: &[u8], places: &mut [u64]) -> PlanAnswer
             result_fpr: 0,
             result_fprs: 0,
         },
-        Outcome::Accepted(_) => {
-            let convention = p.convention;
+        Ok(_) => {
             let r = p.result;
             PlanAnswer {
                 answer: Answer {
@@ -100,8 +96,8 @@ pub extern "C" fn fz_plan(sig: &[u8], places: &mut [u64]) -> PlanAnswer
                     place: 0,
                     items: 0,
                 },
-                convention: base_conventions::code_of(convention),
-                ellipsis: base_words::flag(p.ellipsis),
+                convention: u64::from(p.convention),
+                ellipsis: u64::from(p.ellipsis),
                 arguments: p.count as u64,
                 values: p.values as u64,
                 area: p.area as u64,

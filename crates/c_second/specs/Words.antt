@@ -1,8 +1,8 @@
 -- The second plan in 64-bit words: its outcome and sizes, its result, and the places of each argument. Assumes nothing.
-use Rattle.std.specs.Prelude.{ℕ, Bool, get_or, ltb}
+use Rattle.sig_items.specs.declared.Fault.{Fault}
+use Rattle.std.specs.Prelude.{ℕ, get_or, ltb, Ok, Err, Result}
 use Rattle.base_words.specs.Basics.{pick, flag}
 use Rattle.base_conventions.specs.Numbers.{code_of}
-use Rattle.sig_signatures.specs.declared.Outcome.{Outcome}
 use Rattle.sig_signatures.specs.Limits.{max_arguments}
 use Rattle.second_parameters.specs.declared.Run.{Run}
 use Rattle.second_parameters.specs.declared.Parameter.{Parameter}
@@ -16,11 +16,11 @@ use Rattle.c_second.specs.declared.SecondAnswer.{SecondAnswer}
 use Rattle.c_second.specs.declared.SecondPlace.{SecondPlace}
 
 -- accepted, with the count of items, or refused
-abbrev pub outcome_words : Outcome → Answer
-outcome_words (Outcome.Accepted n) = record { number = 0; place = 0; items = n }
-outcome_words (Outcome.Refused f) = fault_answer f
+abbrev pub outcome_words : Result ℕ Fault → Answer
+outcome_words (Ok n) = record { number = 0; place = 0; items = n }
+outcome_words (Err f) = fault_answer f
 
-abbrev run_words : ℕ → Run → ReturnedWords
+abbrev pub run_words : ℕ → Run → ReturnedWords
 run_words kind r = record { kind = kind; first = r.first; count = r.count }
 
 abbrev pub returned_words : Returned → ReturnedWords

@@ -4,15 +4,16 @@
 ghost use Rattle.std.specs.Prelude.{◌≡◌};
 ghost use Rattle.sig_signatures.specs.Read.{signature_of};
 ghost use Rattle.second_planner.specs.Answer.{second_answer};
-ghost use Rattle.c_second.specs.Words.{outcome_words, returned_words, second_plan_words, place_words, no_second_place, place_at};
+ghost use Rattle.c_second.specs.Words.{outcome_words, run_words, returned_words, second_plan_words, place_words, place_at};
 
 use c_answers::Answer;
-use second_parameters::{Parameter, Returned};
-use sig_signatures::{MAX_ARGUMENTS, Outcome};
+use second_parameters::{NO_PARAMETER, NO_RUN, Parameter, Returned, Run};
+use sig_items::Fault;
+use sig_signatures::MAX_ARGUMENTS;
 
-// A result: 0 none, 1 in general registers, 2 in floating registers, 3 in memory whose address is in a general register; with the first and the count
-// of the registers.
-#[derive(Clone, Copy)]
+// A result, its kind by the number that C has: 0 none, 1 in general registers, 2 in floating registers, 3 in memory whose address is in a general
+// register; with the first and the count of the registers.
+#[derive(Clone, Copy, Debug, PartialEq, Eq)]
 pub struct ReturnedWords {
     pub kind: u64,
     pub first: u64,
@@ -52,16 +53,26 @@ pub struct SecondPlace {
     pub reference: u64,
 }
 
-fn outcome_words(o: Outcome) -> Answer
+fn outcome_words(o: Result<usize, Fault>) -> Answer
     ensures { result ≡ outcome_words o }
 {
     match o {
-        Outcome::Accepted(n) => Answer {
+        Ok(n) => Answer {
             number: 0,
             place: 0,
             items: n as u64,
         },
-        Outcome::Refused(fault) => c_faults::fault_answer(fault),
+        Err(fault) => c_faults::fault_answer(fault),
+    }
+}
+
+fn run_words(kind: u64, run: Run) -> ReturnedWords
+    ensures { result ≡ run_words kind run }
+{
+    ReturnedWords {
+        kind,
+        first: run.first as u64,
+        count: run.count as u64,
     }
 }
 
@@ -69,49 +80,28 @@ fn returned_words(r: Returned) -> ReturnedWords
     ensures { result ≡ returned_words r }
 {
     match r {
-        Returned::Nothing => ReturnedWords {
-            kind: 0,
-            first: 0,
-            count: 0,
-        },
-        Returned::General(s) => ReturnedWords {
-            kind: 1,
-            first: s.first as u64,
-            count: s.count as u64,
-        },
-        Returned::Floating(s) => ReturnedWords {
-            kind: 2,
-            first: s.first as u64,
-            count: s.count as u64,
-        },
-        Returned::Hidden(s) => ReturnedWords {
-            kind: 3,
-            first: s.first as u64,
-            count: s.count as u64,
-        },
+        Returned::Nothing => run_words(0, NO_RUN),
+        Returned::General(run) => run_words(1, run),
+        Returned::Floating(run) => run_words(2, run),
+        Returned::Hidden(run) => run_words(3, run),
     }
 }
 
 fn place_words(p: Parameter) -> SecondPlace
     ensures { result ≡ place_words p }
 {
-    let general = p.general;
-    let floating = p.floating;
-    let field = p.field;
-    let memory = p.memory;
-    let copy = p.copy;
     SecondPlace {
-        gpr: general.first as u64,
-        gprs: general.count as u64,
-        fpr: floating.first as u64,
-        fprs: floating.count as u64,
-        field: field.first as u64,
-        field_length: field.count as u64,
-        memory: memory.first as u64,
-        memory_length: memory.count as u64,
-        copy: copy.first as u64,
-        copy_length: copy.count as u64,
-        reference: base_words::flag(p.reference),
+        gpr: p.general.first as u64,
+        gprs: p.general.count as u64,
+        fpr: p.floating.first as u64,
+        fprs: p.floating.count as u64,
+        field: p.field.first as u64,
+        field_length: p.field.count as u64,
+        memory: p.memory.first as u64,
+        memory_length: p.memory.count as u64,
+        copy: p.copy.first as u64,
+        copy_length: p.copy.count as u64,
+        reference: u64::from(p.reference),
     }
 }
 
@@ -120,14 +110,13 @@ pub extern "C" fn fz_second_plan(sig: &[u8]) -> SecondAnswer
     ensures { result ≡ second_plan_words (second_answer (signature_of sig.now)) }
 {
     let p = second_planner::second_plan_of(sig);
-    let outcome = p.outcome;
-    let convention = p.convention;
-    let returned = p.result;
-    let result = returned_words(returned);
+    let result = returned_words(p.result);
+    let convention = u64::from(p.convention);
+    let ellipsis = u64::from(p.ellipsis);
     SecondAnswer {
-        answer: outcome_words(outcome),
-        convention: base_conventions::code_of(convention),
-        ellipsis: base_words::flag(p.ellipsis),
+        answer: outcome_words(p.outcome),
+        convention,
+        ellipsis,
         arguments: p.count as u64,
         values: p.values as u64,
         area: p.area as u64,
@@ -146,20 +135,8 @@ pub extern "C" fn fz_second_place(sig: &[u8], index: u64) -> SecondPlace
     let i = index as usize;
     if i < MAX_ARGUMENTS {
         let plan = second_planner::second_plan_of(sig);
-        let p = plan.parameters[i];
-        return place_words(p);
-    }
-    SecondPlace {
-        gpr: 0,
-        gprs: 0,
-        fpr: 0,
-        fprs: 0,
-        field: 0,
-        field_length: 0,
-        memory: 0,
-        memory_length: 0,
-        copy: 0,
-        copy_length: 0,
-        reference: 0,
+        place_words(plan.parameters[i])
+    } else {
+        place_words(NO_PARAMETER)
     }
 }

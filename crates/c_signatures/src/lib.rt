@@ -8,11 +8,9 @@ ghost use Rattle.base_ieee.specs.Narrowing.{narrow};
 ghost use Rattle.sig_signatures.specs.Read.{signature_of};
 ghost use Rattle.c_signatures.specs.Surface.{reading_answer, narrowing_answer, version};
 
-use base_ieee::Narrowed;
 use c_answers::Answer;
-use sig_signatures::Outcome;
 
-// `fz_narrowed`: number 0 is yes, 14 no.
+// `fz_narrowed`: number 0 is yes, 14 no, as C has them.
 #[repr(C)]
 #[derive(Clone, Copy)]
 pub struct NarrowingAnswer {
@@ -34,12 +32,12 @@ pub extern "C" fn fz_read_signature(sig: &[u8]) -> Answer
     ensures { result ≡ reading_answer (signature_of sig.now) }
 {
     match plan_measuring::outcome_of(sig) {
-        Outcome::Accepted(items) => Answer {
+        Ok(items) => Answer {
             number: 0,
             place: 0,
             items: items as u64,
         },
-        Outcome::Refused(fault) => c_faults::fault_answer(fault),
+        Err(fault) => c_faults::fault_answer(fault),
     }
 }
 
@@ -56,12 +54,12 @@ pub extern "C" fn fz_narrow(bits: u64) -> NarrowingAnswer
     ensures { result ≡ narrowing_answer (narrow bits) }
 {
     match base_ieee::narrow(bits) {
-        Narrowed::Single(x) => NarrowingAnswer {
+        Some(x) => NarrowingAnswer {
             number: 0,
             place: 0,
-            bits: x as u64,
+            bits: u64::from(x),
         },
-        Narrowed::NotWidened => NarrowingAnswer {
+        None => NarrowingAnswer {
             number: 14,
             place: 0,
             bits: 0,

@@ -9,6 +9,7 @@ ghost use Rattle.frame_word_layout.specs.Words.{registers_in};
 ghost use Rattle.frame_word_layout.specs.Calls.{start_words};
 ghost use Rattle.c_frame_answers.specs.Frames.{frame_answer};
 
+use base_conventions::Convention;
 use c_answers::Answer;
 use frame_word_layout::{MACHINE_WORDS, REGISTERS_WORDS};
 
@@ -24,7 +25,7 @@ pub extern "C" fn fz_start_ppc64(
     ensures machine_after { machine.new ≡ start_words Ppc64 registers.now base (length memory.old) }
     ensures memory_after { memory.new ≡ start_memory Ppc64 base memory.old }
 {
-    let a = frame_word_starts::start_ppc64(machine, registers, base, memory);
+    let a = frame_word_starts::start(Convention::Ppc64, machine, registers, base, memory);
     c_frame_answers::answer_of(a)
 }
 
@@ -39,7 +40,7 @@ pub extern "C" fn fz_start_z(
     ensures machine_after { machine.new ≡ start_words Z registers.now base (length memory.old) }
     ensures memory_after { memory.new ≡ start_memory Z base memory.old }
 {
-    let a = frame_word_starts::start_z(machine, registers, base, memory);
+    let a = frame_word_starts::start(Convention::Z, machine, registers, base, memory);
     c_frame_answers::answer_of(a)
 }
 
@@ -55,7 +56,7 @@ pub extern "C" fn fz_start_aix(
     ensures machine_after { machine.new ≡ start_words Aix registers.now base (length memory.old) }
     ensures memory_after { memory.new ≡ start_memory Aix base memory.old }
 {
-    let a = frame_word_starts::start_aix(machine, registers, base, memory);
+    let a = frame_word_starts::start(Convention::Aix, machine, registers, base, memory);
     c_frame_answers::answer_of(a)
 }
 
@@ -71,6 +72,6 @@ pub extern "C" fn fz_start_ppc64b(
     ensures machine_after { machine.new ≡ start_words Ppc64b registers.now base (length memory.old) }
     ensures memory_after { memory.new ≡ start_memory Ppc64b base memory.old }
 {
-    let a = frame_word_starts::start_ppc64b(machine, registers, base, memory);
+    let a = frame_word_starts::start(Convention::Ppc64b, machine, registers, base, memory);
     c_frame_answers::answer_of(a)
 }

@@ -11,8 +11,9 @@ ghost use Rattle.call_fill_stored.specs.FillStored.{stored_fill_answer, stored_f
 ghost use Rattle.c_stored.specs.Stored.{stored_words, check_words, stored_fill_words};
 
 use c_answers::Answer;
-use call_fill_stored::StoredFill;
-use plan_stored::{CheckAnswer, StoreAnswer};
+use call_fill_stored::StoredError;
+use plan_stored::StoreRefusal;
+use sig_items::Fault;
 
 // `fz_stored` of include/flakuzhen.h.
 #[repr(C)]
@@ -33,41 +34,45 @@ fn answer_of(number: u64, place: u64) -> Answer
     }
 }
 
-fn stored_words(a: StoreAnswer) -> Stored
+#[tactic(auto, unfolding(crate::specs::Stored::stored_words))]
+fn stored_words(a: Result<usize, StoreRefusal>) -> Stored
     ensures { result ≡ stored_words a }
 {
     match a {
-        StoreAnswer::Stored(n) => Stored {
+        Ok(n) => Stored {
             answer: answer_of(0, 0),
             length: n as u64,
         },
-        StoreAnswer::Refused(fault) => Stored {
+        Err(StoreRefusal::Unread(fault)) => Stored {
             answer: c_faults::fault_answer(fault),
             length: 0,
         },
-        StoreAnswer::TooShort => Stored {
+        Err(StoreRefusal::TooShort) => Stored {
             answer: answer_of(33, 0),
             length: 0,
         },
     }
 }
 
-fn check_words(a: CheckAnswer) -> Answer
+#[tactic(auto, unfolding(crate::specs::Stored::check_words))]
+fn check_words(a: Result<Option<usize>, Fault>) -> Answer
     ensures { result ≡ check_words a }
 {
     match a {
-        CheckAnswer::Same => answer_of(0, 0),
-        CheckAnswer::Refused(fault) => c_faults::fault_answer(fault),
-        CheckAnswer::Differs(place) => answer_of(27, place as u64),
+        Ok(None) => answer_of(0, 0),
+        Err(fault) => c_faults::fault_answer(fault),
+        Ok(Some(place)) => answer_of(27, place as u64),
     }
 }
 
-fn stored_fill_words(a: StoredFill) -> Answer
+#[tactic(auto, unfolding(crate::specs::Stored::stored_fill_words))]
+fn stored_fill_words(a: Result<(), StoredError>) -> Answer
     ensures { result ≡ stored_fill_words a }
 {
     match a {
-        StoredFill::Plain(plain) => c_call_answers::answer_of(plain),
-        StoredFill::Stale(place) => answer_of(27, place as u64),
+        Ok(()) => answer_of(0, 0),
+        Err(StoredError::Call(e)) => c_call_answers::answer_of(Err(e)),
+        Err(StoredError::Stale(place)) => answer_of(27, place as u64),
     }
 }
 

@@ -10,7 +10,7 @@ use Rattle.sig_types.specs.Trees.{Trees, none, ◌▸◌, count_of}
 use Rattle.sig_types.specs.Limits.{AllWithin}
 use Rattle.sig_items.specs.Encode.{encode_trees}
 use Rattle.sig_items.proofs.Trees.{length_more}
-use Rattle.sig_signatures.specs.Signature.{Result, Signature}
+use Rattle.sig_signatures.specs.Signature.{ResultTree, Signature}
 use Rattle.sig_signatures.specs.Encode.{encode_result, encode, SignatureWithin}
 use Rattle.sig_signatures.proofs.Sound.{length-encode}
 use Rattle.call_appending.specs.Appending.{joined, Appends}
@@ -23,7 +23,7 @@ extended g us = record { convention = g.convention; result = g.result; ellipsis 
 pub appends-extended : (g h : Signature) (a : Appends g h) → h ≡ extended g a.more
 appends-extended g h a =
     ap (λ (x : Convention). record { convention = x; result = h.result; ellipsis = h.ellipsis; arguments = h.arguments }) a.convention
-    ∙ ap (λ (x : Result). record { convention = g.convention; result = x; ellipsis = h.ellipsis; arguments = h.arguments }) a.result
+    ∙ ap (λ (x : ResultTree). record { convention = g.convention; result = x; ellipsis = h.ellipsis; arguments = h.arguments }) a.result
     ∙ ap (λ (x : Bool). record { convention = g.convention; result = g.result; ellipsis = x; arguments = h.arguments }) a.ellipsis
     ∙ ap (λ (x : Trees). record { convention = g.convention; result = g.result; ellipsis = g.ellipsis; arguments = x }) a.arguments
 

@@ -10,7 +10,6 @@ use Rattle.sig_types.specs.declared.ValueType.{ValueType}
 use Rattle.sig_types.specs.Sizes.{size_of}
 use Rattle.sig_types.specs.Trees.{Trees}
 use Rattle.sig_items.specs.Reading.{Reading, got}
-use Rattle.sig_signatures.specs.declared.ResultType.{ResultType}
 use Rattle.sig_signatures.specs.Signature.{Signature}
 use Rattle.sig_signatures.specs.Read.{signature_of}
 use Rattle.sig_signatures.specs.Answer.{result_type, signature_answer}

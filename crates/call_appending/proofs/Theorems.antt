@@ -1,4 +1,6 @@
 -- Appended arguments move nothing (specs/Appending.antt states it). Assumes nothing.
+use Rattle.sig_reader.specs.declared.ArgumentItem.{ArgumentItem}
+use Rattle.std.proofs.Common.{Ok, Result, Option}
 use mathlib.Core.Path.{◌≡◌, refl, sym, ap, ap₂, subst, ◌∙◌}
 use mathlib.Core.Bool.{Bool, false}
 use mathlib.Core.List.{List, ◌++◌}
@@ -13,15 +15,12 @@ use Rattle.sig_types.specs.Trees.{Trees, none, ◌▸◌, count_of}
 use Rattle.sig_items.specs.declared.Fault.{Fault}
 use Rattle.sig_items.specs.declared.Refusal.{Refusal}
 use Rattle.sig_items.specs.Reading.{Reading, fault, got, no}
-use Rattle.sig_signatures.specs.declared.ResultType.{ResultType}
-use Rattle.sig_signatures.specs.declared.Outcome.{Outcome}
 use Rattle.sig_signatures.specs.Signature.{Signature}
 use Rattle.sig_signatures.specs.Read.{signature_of}
 use Rattle.sig_signatures.specs.Answer.{result_type}
 use Rattle.sig_signatures.specs.Encode.{encode, signature_items, SignatureWithin}
 use Rattle.sig_signatures.proofs.Theorems.{accepted}
 use Rattle.sig_signatures.proofs.Complete.{encode-reads}
-use Rattle.sig_reader.specs.declared.ArgumentRead.{ArgumentRead}
 use Rattle.sig_reader.specs.Argument.{argument_in, arguments_place, argument_of, item_in, unclear_fault}
 use Rattle.plan_places.specs.declared.Cursor.{Cursor}
 use Rattle.plan_places.specs.declared.CallRules.{CallRules}
@@ -89,7 +88,7 @@ module _ (g : Signature) (us : Trees) (k n l m : ℕ) where
       let c : Convention = g.convention in
       let ts : List ValueType = types_of c g.arguments in
       let vs : List ValueType = types_of c us in
-      let r : ResultType = result_type c g.result in
+      let r : (Option ValueType) = result_type c g.result in
       let on = last-forward c (rules_of c) (last_cursor_in c r ts) vs in
       let types = types-joined c g.arguments us in
       let last = last-append c (rules_of c) (start_in c r) ts vs in
@@ -157,7 +156,7 @@ pub record Readings (s u : List ℕ) (a : Appended s u) : Type 0 where
   pub shorter : call_of s ≡ got a.shorter a.next a.items
   pub longer : call_of u ≡ got (extended a.shorter a.appends.more) a.longer-next a.longer-items
 
-pub readings : (s u : List ℕ) (a : Appended s u) (n : ℕ) → outcome_for u ≡ Outcome.Accepted n → Readings s u a
+pub readings : (s u : List ℕ) (a : Appended s u) (n : ℕ) → outcome_for u ≡ Ok n → Readings s u a
 readings s u a n e =
     let g : Signature = a.shorter in
     let us : Trees = a.appends.more in
@@ -218,7 +217,7 @@ refused-alike s u a f e =
     argument-kept g us a.next a.items a.longer-next a.longer-items i (number-within g a.next a.items i b.first) in
     ap called (longer-reads s u a)
     ∙ unclear-read (extended g us) a.longer-next a.longer-items i (unclear-first g us i b.first)
-    ∙ ap (λ (z : ArgumentRead). no (fault Refusal.UnclearPlace (item_in z) 0)) same
+    ∙ ap (λ (z : Result (Option ArgumentItem) Fault). no (fault Refusal.UnclearPlace (item_in z) 0)) same
     ∙ ap no (sym b.fault)
 
 -- two encodings within the limits are such bytes

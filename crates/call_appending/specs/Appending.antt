@@ -1,11 +1,10 @@
 -- Document 02, No. 3: "with the same convention and result, appending arguments never changes a place, offset, or copy position of any earlier
 -- argument, provided that the longer signature is accepted. The area may only grow. State it over all conventions at once." And No. 5: "No. 3
 -- holds with the same tag on both sides." proofs/Theorems.antt proves it. Assumes nothing.
-use Rattle.std.specs.Prelude.{ℕ, ◌≤◌, ◌<◌, ◌≡◌, List, length}
+use Rattle.std.specs.Prelude.{ℕ, ◌≤◌, ◌<◌, ◌≡◌, List, length, Ok}
 use Rattle.sig_types.specs.Trees.{Trees, none, ◌▸◌}
 use Rattle.sig_items.specs.declared.Fault.{Fault}
 use Rattle.sig_items.specs.Reading.{Reading, got, no}
-use Rattle.sig_signatures.specs.declared.Outcome.{Outcome}
 use Rattle.sig_signatures.specs.Signature.{Signature}
 use Rattle.sig_signatures.specs.Read.{signature_of}
 use Rattle.sig_signatures.specs.Encode.{encode, signature_items}
@@ -68,7 +67,7 @@ pub record Stays (s u : List ℕ) : Type 0 where
   pub kept : AppendingKeeps (call_of s) (call_of u)
 
 abbrev pub PlacesStay : Type 0
-PlacesStay = (s u : List ℕ) → Appended s u → (n : ℕ) → outcome_for u ≡ Outcome.Accepted n → Stays s u
+PlacesStay = (s u : List ℕ) → Appended s u → (n : ℕ) → outcome_for u ≡ Ok n → Stays s u
 
 -- from the longer one's bytes alone: the shorter one can be written, and is accepted
 abbrev pub ShorterAccepted : Type 0

@@ -1,7 +1,6 @@
 -- Document 02, No. 3, of what is printed: a listing keeps the lines of its arguments where arguments are appended. proofs/Printed.antt proves it.
 -- Assumes nothing.
-use Rattle.std.specs.Prelude.{ℕ, ◌≡◌, List, ◌++◌, take}
-use Rattle.sig_signatures.specs.declared.Outcome.{Outcome}
+use Rattle.std.specs.Prelude.{ℕ, ◌≡◌, List, ◌++◌, take, Ok}
 use Rattle.plan_plans.specs.declared.Plan.{Plan}
 use Rattle.plan_plans.specs.Plan.{plan_answer}
 use Rattle.plan_plans.specs.Call.{call_of, outcome_for}
@@ -29,4 +28,4 @@ pub record LinesKept (s u : List ℕ) : Type 0 where
   pub longer : listing_of u ≡ first_line u ++ ((argument_lines s ++ more) ++ last_line s)
 
 abbrev pub LinesStay : Type 0
-LinesStay = (s u : List ℕ) → Appended s u → (n : ℕ) → outcome_for u ≡ Outcome.Accepted n → LinesKept s u
+LinesStay = (s u : List ℕ) → Appended s u → (n : ℕ) → outcome_for u ≡ Ok n → LinesKept s u

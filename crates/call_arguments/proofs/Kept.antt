@@ -1,4 +1,6 @@
 -- The loop that reads a call's arguments: those so far are kept; what each way out of it gives; and the whole call by that. Assumes nothing.
+use Rattle.sig_items.specs.declared.Item.{Item}
+use Rattle.std.proofs.Common.{Ok, Err, Result, Option}
 use mathlib.Core.Path.{◌≡◌, refl, sym, ap, ap₂, ◌∙◌}
 use mathlib.Core.Bool.{Bool, true, false}
 use mathlib.Core.List.{List, [], ◌∷◌, ◌++◌}
@@ -16,16 +18,13 @@ use Rattle.sig_types.specs.Sizes.{size_of}
 use Rattle.sig_types.specs.Trees.{Trees, none, ◌▸◌, type_of}
 use Rattle.sig_items.specs.declared.Refusal.{Refusal}
 use Rattle.sig_items.specs.declared.Fault.{Fault}
-use Rattle.sig_items.specs.declared.ItemRead.{ItemRead}
 use Rattle.sig_items.specs.Reading.{Reading, fault, got, no}
 use Rattle.sig_items.specs.Read.{item_at}
-use Rattle.sig_items.specs.Answer.{item_answer}
+use Rattle.sig_items.specs.Answer.{item_answer, item_found}
 use Rattle.sig_items.proofs.Loop.{item-answered}
 use Rattle.sig_signatures.specs.Limits.{max_arguments}
 use Rattle.sig_signatures.specs.Helpers.{RoomFor}
-use Rattle.sig_signatures.specs.declared.ResultType.{ResultType}
-use Rattle.sig_signatures.specs.declared.Outcome.{Outcome}
-use Rattle.sig_signatures.specs.Signature.{Result, Signature}
+use Rattle.sig_signatures.specs.Signature.{ResultTree, Signature}
 use Rattle.sig_signatures.specs.Read.{arguments_in, signature_of, head_of}
 use Rattle.sig_signatures.specs.Answer.{result_type, head_answer, signature_answer}
 use Rattle.sig_signatures.specs.Types.{types_of}
@@ -80,7 +79,7 @@ pub record Keeping (c : Convention) (v : Bool) (s : List ℕ) (at e : ℕ) (star
   pub rows : kept_all c kept count ≡ placements c (types_of c sizes.ts) (spans_of c (with_ellipsis v (rules_of c)) start (types_of c sizes.ts))
 
 module _ (c : Convention) (v : Bool) (s : List ℕ) (at e : ℕ) (l : List ℕ) where
-  pub keeping_start : (r : ResultType) (k : Cursor) → k ≡ start_in c r → at ≤ e → Keeping c v s at e k l k l 0 0 0 at 1
+  pub keeping_start : (r : Option ValueType) (k : Cursor) → k ≡ start_in c r → at ≤ e → Keeping c v s at e k l k l 0 0 0 at 1
   unfolding kept_from types_of placements last_of
   keeping_start r k p h = rw p (record {
     sizes = record { ts = none; so_far = none_so_far c s at e (rules_of c) (hidden_in c r) (rules-lawful c) h };
@@ -89,7 +88,7 @@ module _ (c : Convention) (v : Bool) (s : List ℕ) (at e : ℕ) (l : List ℕ) 
   })
 
   module _ (room : RoomFor row_length at e (length l)) (start k : Cursor) (kept : List ℕ) (bytes u count next n : ℕ) (m : Keeping c v s at e start l k kept bytes u count next n) where
-    module _ (h : next < e) (some : count ≡ max_arguments → ⊥) (x : ItemRead) (found : x ≡ item_answer c (item_at c 8 s e next)) (t : ValueType) (after j : ℕ) (q : x ≡ ItemRead.Item t after j) where
+    module _ (h : next < e) (some : count ≡ max_arguments → ⊥) (x : Result Item Fault) (found : x ≡ item_answer c (item_at c 8 s e next)) (t : ValueType) (after j : ℕ) (q : x ≡ item_found t after j) where
       -- the row has room
       pub keeping-room : 10 * count + 10 ≤ length kept
       keeping-room =
@@ -123,7 +122,7 @@ module _ (c : Convention) (v : Bool) (s : List ℕ) (at e : ℕ) (l : List ℕ) 
 
 -- ---- what is kept in the end
 
-module _ (c : Convention) (v : Bool) (s : List ℕ) (at e : ℕ) (r : ResultType) where
+module _ (c : Convention) (v : Bool) (s : List ℕ) (at e : ℕ) (r : Option ValueType) where
   pub kept-no : (f : Fault) → arguments_in c s at e ≡ no f → (l : List ℕ) (n : ℕ) → KeptWith c v r (length s) (arguments_in c s at e) l n
   kept-no f q l n = rw q tt
 
@@ -141,13 +140,13 @@ module _ (c : Convention) (v : Bool) (s : List ℕ) (at e : ℕ) (r : ResultType
 
 -- ---- the whole call
 
-arguments-then : (s : List ℕ) (c : Convention) (r : Result) (v : Bool) (n : ℕ) (ts : Trees) (next m : ℕ) → ltb next (length s) ≡ false
+arguments-then : (s : List ℕ) (c : Convention) (r : ResultTree) (v : Bool) (n : ℕ) (ts : Trees) (next m : ℕ) → ltb next (length s) ≡ false
     → signature_of s ≡ then_arguments s c r v n (got ts next m)
     → arguments_of s ≡ placements c (types_of c ts) (spans_of c (with_ellipsis v (rules_of c)) (start_in c (result_type c r)) (types_of c ts))
 unfolding arguments_of
 arguments-then s c r v n ts next m end read = rw (read, end) (arguments-got (record { convention = c; result = r; ellipsis = v; arguments = ts }) next (n + m))
 
-module _ (s : List ℕ) (c : Convention) (t : ResultType) (v : Bool) (at b n : ℕ) (head : HeadIs s c t v at b n) where
+module _ (s : List ℕ) (c : Convention) (t : Option ValueType) (v : Bool) (at b n : ℕ) (head : HeadIs s c t v at b n) where
   -- what is kept of what is read, where that is accepted
   kept_read : (l : List ℕ) (count : ℕ) → KeptWith c v t (length s) (arguments_in c s at b) l count
       → KeptWhere (measure_of (plan_with c false t n (length s) (arguments_in c s at b))).outcome s c l count
@@ -162,7 +161,7 @@ module _ (s : List ℕ) (c : Convention) (t : ResultType) (v : Bool) (at b n : �
           let arguments = arguments-then s c r v n ts next m end read-so in
           record {
             room = room;
-            same = rows ∙ ap (λ (u : ResultType). placements c (types_of c ts) (spans_of c (with_ellipsis v (rules_of c)) (start_in c u) (types_of c ts))) same ∙ sym arguments;
+            same = rows ∙ ap (λ (u : Option ValueType). placements c (types_of c ts) (spans_of c (with_ellipsis v (rules_of c)) (start_in c u) (types_of c ts))) same ∙ sym arguments;
           }
 
       by_end : (more : Bool) (ts : Trees) (next m : ℕ) → arguments_in c s at b ≡ got ts next m → ltb next (length s) ≡ more → KeptWith c v t (length s) (got ts next m) l count
@@ -192,19 +191,19 @@ module _ (s : List ℕ) (c : Convention) (t : ResultType) (v : Bool) (at b n : �
       let same = e ∙ measured-arguments s (head_answer (head_of s)) refl c t v at b n head in
       let number = q ∙ sym (unclear-arguments s (head_answer (head_of s)) refl c t v at b n head) in
       rw same
-      (ap (λ (o : Outcome). record { outcome = o; area = (plan_for s).area; values = (plan_for s).values; copies = (plan_for s).copies }) (outcome-by (signature_of s) u number))
+      (ap (λ (o : Result ℕ Fault). record { outcome = o; area = (plan_for s).area; values = (plan_for s).values; copies = (plan_for s).copies }) (outcome-by (signature_of s) u number))
 
-pub unclear-by : (u : ℕ) (o : Outcome) (x : Reading Signature) → 0 < u → Outcome.Refused (unclear_fault (u - 1) x) ≡ outcome_by u o x
+pub unclear-by : (u : ℕ) (o : Result ℕ Fault) (x : Reading Signature) → 0 < u → Err (unclear_fault (u - 1) x) ≡ outcome_by u o x
 unfolding outcome_by
 unclear-by zero o x h = absurd (omega arith)
 unclear-by (suc i) o x h = let same : suc i - 1 ≡ i = omega arith in rw same
 
 -- ---- a call without arguments
 
-pub none_left : (s : List ℕ) (c : Convention) (t : ResultType) (v : Bool) (at e n : ℕ) → HeadIs s c t v at e n → at ≡ e → NoneLeft s c t e n
+pub none_left : (s : List ℕ) (c : Convention) (t : Option ValueType) (v : Bool) (at e n : ℕ) → HeadIs s c t v at e n → at ≡ e → NoneLeft s c t e n
 none_left s c t v at e n head same = (v, rw same at head)
 
-module _ (s : List ℕ) (c : Convention) (t : ResultType) (v : Bool) (e n : ℕ) (head : HeadIs s c t v e e n) where
+module _ (s : List ℕ) (c : Convention) (t : Option ValueType) (v : Bool) (e n : ℕ) (head : HeadIs s c t v e e n) where
   no-turn : Measuring c s e e (rules_of c) (start_in c t) (start_in c t) 0 0 0 e 1
   no-turn = measuring-start c s e e (rules_of c) (hidden_in c t) (rules-lawful c) (omega arith)
 
@@ -214,7 +213,7 @@ module _ (s : List ℕ) (c : Convention) (t : ResultType) (v : Bool) (e n : ℕ)
       sizes-of s c t v e e n head _ 0 (measure-trailing c s e e t n (start_in c t) 0 0 0 e 1 no-turn (omega arith) h)
       (unclear-trailing c s e e t n (start_in c t) 0 0 0 e 1 no-turn (omega arith) h)
 
-  pub none_end : length s ≤ e → ◌≡◌ {A = Measured} (record { outcome = Outcome.Accepted (n + 1); area = area_of c (start_in c t); values = 0; copies = (start_in c t).copies }) (sizes_for s)
+  pub none_end : length s ≤ e → ◌≡◌ {A = Measured} (record { outcome = Ok (n + 1); area = area_of c (start_in c t); values = 0; copies = (start_in c t).copies }) (sizes_for s)
   unfolding outcome_by
   none_end h =
       sizes-of s c t v e e n head _ 0 (measure-end c s e e t n (start_in c t) 0 0 0 e 1 no-turn (omega arith) h)
@@ -227,35 +226,35 @@ module _ (s : List ℕ) (c : Convention) (t : ResultType) (v : Bool) (e n : ℕ)
       let ended = turn_last c s e e none 0 e 1 (turn-start c s e e (omega arith)) (omega arith) in
       go r (ltb e (length s)) refl (read ∙ ap (then_arguments s c r v n) ended)
     where
-      go : (r : Result) (more : Bool) → ltb e (length s) ≡ more → signature_of s ≡ then_arguments s c r v n (got none e 1) → arguments_of s ≡ []
+      go : (r : ResultTree) (more : Bool) → ltb e (length s) ≡ more → signature_of s ≡ then_arguments s c r v n (got none e 1) → arguments_of s ≡ []
       go r true q read = rw (read, q)
       go r false q read = arguments-then s c r v n none e 1 q read
 
 -- ---- what an accepted call is known by
 
 -- the rules of its arguments and the places of its result are those of what stands before them
-pub record Headed (s : List ℕ) (c : Convention) (t : ResultType) (v : Bool) : Type 0 where
+pub record Headed (s : List ℕ) (c : Convention) (t : Option ValueType) (v : Bool) : Type 0 where
   pub rules : with_ellipsis v (rules_of c) ≡ rules_for s
   pub result : result_places_in c t ≡ (plan_for s).result
 
-module _ (s : List ℕ) (c : Convention) (t : ResultType) (v : Bool) (at b n : ℕ) (head : HeadIs s c t v at b n) where
-  pub headed : (k : ℕ) → outcome_for s ≡ Outcome.Accepted k → Headed s c t v
+module _ (s : List ℕ) (c : Convention) (t : Option ValueType) (v : Bool) (at b n : ℕ) (head : HeadIs s c t v at b n) where
+  pub headed : (k : ℕ) → outcome_for s ≡ Ok k → Headed s c t v
   unfolding plan_answer plan_in
   headed k accepted =
       let (r, read, same) = signature-then s (head_answer (head_of s)) refl c t v at b n head in
-      let plain : (plan_answer (signature_of s)).outcome ≡ Outcome.Accepted k = sym (ap (λ (y : Reading Signature). (plan_answer y).outcome) (called-accepted (signature_of s) k accepted)) ∙ accepted in
+      let plain : (plan_answer (signature_of s)).outcome ≡ Ok k = sym (ap (λ (y : Reading Signature). (plan_answer y).outcome) (called-accepted (signature_of s) k accepted)) ∙ accepted in
       go r same (arguments_in c s at b) read (sym (ap (λ (y : Reading Signature). (plan_answer y).outcome) read) ∙ plain)
     where
-      known : (r : Result) → t ≡ result_type c r → (ts : Trees) (next m : ℕ) → signature_of s ≡ got (record { convention = c; result = r; ellipsis = v; arguments = ts }) next m → Headed s c t v
+      known : (r : ResultTree) → t ≡ result_type c r → (ts : Trees) (next m : ℕ) → signature_of s ≡ got (record { convention = c; result = r; ellipsis = v; arguments = ts }) next m → Headed s c t v
       known r same ts next m q = record { rules = rw q; result = rw (q, same) }
 
-      by_end : (r : Result) → t ≡ result_type c r → (more : Bool) (ts : Trees) (next m : ℕ)
+      by_end : (r : ResultTree) → t ≡ result_type c r → (more : Bool) (ts : Trees) (next m : ℕ)
           → signature_of s ≡ pick more (no (fault Refusal.TrailingBytes next (n + m))) (got (record { convention = c; result = r; ellipsis = v; arguments = ts }) next (n + m))
-          → (plan_answer (pick more (no (fault Refusal.TrailingBytes next (n + m))) (got (record { convention = c; result = r; ellipsis = v; arguments = ts }) next (n + m)))).outcome ≡ Outcome.Accepted k
+          → (plan_answer (pick more (no (fault Refusal.TrailingBytes next (n + m))) (got (record { convention = c; result = r; ellipsis = v; arguments = ts }) next (n + m)))).outcome ≡ Ok k
           → Headed s c t v
       by_end r same true ts next m q a = let z : ◌≡◌ {A = ℕ} 0 1 = cc in absurd (omega arith)
       by_end r same false ts next m q a = known r same ts next (n + m) q
 
-      go : (r : Result) → t ≡ result_type c r → (x : Reading Trees) → signature_of s ≡ then_arguments s c r v n x → (plan_answer (then_arguments s c r v n x)).outcome ≡ Outcome.Accepted k → Headed s c t v
+      go : (r : ResultTree) → t ≡ result_type c r → (x : Reading Trees) → signature_of s ≡ then_arguments s c r v n x → (plan_answer (then_arguments s c r v n x)).outcome ≡ Ok k → Headed s c t v
       go r same (no f) q a = let z : ◌≡◌ {A = ℕ} 0 1 = cc in absurd (omega arith)
       go r same (got ts next m) q a = by_end r same (ltb next (length s)) ts next m q a

@@ -15,8 +15,9 @@ ghost use Rattle.call_arguments.specs.Helpers.{HeadIs, NoneLeft, KeptWith, KeptW
 use base_conventions::Convention;
 use plan_places::{CallRules, Cursor};
 use plan_plans::Measured;
-use sig_items::{Fault, ItemRead, Refusal};
-use sig_signatures::{MAX_ARGUMENTS, Outcome, ResultType};
+use sig_items::{Fault, Item, Refusal};
+use sig_signatures::{Head, MAX_ARGUMENTS};
+use sig_types::ValueType;
 
 // The sizes of a call, with its outcome, and how many arguments are kept.
 #[derive(Clone, Copy)]
@@ -26,7 +27,7 @@ pub struct KeptCall {
 }
 
 // The cursor of the first argument.
-pub fn first_cursor(c: Convention, res: ResultType) -> Cursor
+pub fn first_cursor(c: Convention, res: Option<ValueType>) -> Cursor
     ensures { result ≡ start_in c res }
 {
     let hidden = plan_planning::hidden_in(c, res);
@@ -58,59 +59,57 @@ fn none_kept(fault: Fault) -> KeptArguments
     }
 }
 
-// From the arguments on, which stand from `at` to `end`; `earlier` items came before theirs. Each is read, placed and kept.
-fn keep_arguments(
-    s: &[u8],
-    convention: Convention,
-    ellipsis: bool,
-    returned: ResultType,
-    at: usize,
-    end: usize,
-    earlier: usize,
-    kept: &mut [u16],
-) -> KeptArguments
-    requires { (at ≤ end) × (end ≤ length s.now) × (end ≤ 2 ^ 16) × (earlier ≤ 2 ^ 16) × RoomFor row_length at end (length kept.old) }
-    ensures measured_value { (result.measured ≡ measure_of (plan_with convention false returned earlier (length s.now) (arguments_in convention s.now at end))) × (result.unclear ≡ unclear_with convention returned (length s.now) (arguments_in convention s.now at end)) }
-    ensures kept_with { KeptWith convention ellipsis returned (length s.now) (arguments_in convention s.now at end) kept.new result.count }
+// From the arguments on, whose head was read. Each is read, placed and kept.
+fn keep_arguments(s: &[u8], head: Head, kept: &mut [u16]) -> KeptArguments
+    requires { (head.at ≤ head.end) × (head.end ≤ length s.now) × (head.end ≤ 2 ^ 16) × (head.earlier ≤ 2 ^ 16) × RoomFor row_length head.at head.end (length kept.old) }
+    ensures measured_value { (result.measured ≡ measure_of (plan_with head.convention false head.result head.earlier (length s.now) (arguments_in head.convention s.now head.at head.end))) × (result.unclear ≡ unclear_with head.convention head.result (length s.now) (arguments_in head.convention s.now head.at head.end)) }
+    ensures kept_with { KeptWith head.convention head.ellipsis head.result (length s.now) (arguments_in head.convention s.now head.at head.end) kept.new result.count }
 {
-    let rules = rules_in(convention, ellipsis);
-    let mut c = first_cursor(convention, returned);
+    let rules = rules_in(head.convention, head.ellipsis);
+    let mut c = first_cursor(head.convention, head.result);
     let mut values: usize = 0;
     let mut unclear: usize = 0;
     let mut count: usize = 0;
-    let mut next = at;
+    let mut next = head.at;
     let mut items: usize = 1;
-    while next < end {
+    while next < head.end {
         if count == MAX_ARGUMENTS {
             return none_kept(Fault {
                 reason: Refusal::TooManyArguments,
                 place: next,
-                passed: earlier + items,
+                passed: head.earlier + items,
             });
         }
-        match sig_nested_items::read_item(s, convention, next, end, sig_types::MAX_DEPTH) {
-            ItemRead::Item {
-                ty,
-                next: after,
-                items: more,
-            } => {
-                let bytes = sig_types::size_of(convention, ty);
+        match sig_nested_items::read_item(
+            s,
+            head.convention,
+            next,
+            head.end,
+            sig_types::MAX_DEPTH,
+        ) {
+            Ok(
+                Item {
+                    ty,
+                    next: after,
+                    items: more,
+                },
+            ) => {
+                let bytes = sig_types::size_of(head.convention, ty);
                 unclear = plan_placing::unclear_after(unclear, rules, c, ty, count);
                 let p = plan_placing::step(rules, c, ty, bytes);
-                let span = p.span;
-                call_kept::keep(kept, count, ty, span);
+                call_kept::keep(kept, count, ty, p.span);
                 c = p.next;
-                values = values + bytes;
-                count = count + 1;
+                values += bytes;
+                count += 1;
                 next = after;
-                items = items + more;
+                items += more;
             }
-            ItemRead::Refused(fault) => {
-                return none_kept(sig_items::later_by(earlier + items, fault));
+            Err(fault) => {
+                return none_kept(sig_items::later_by(head.earlier + items, fault));
             }
         }
     }
-    let counted = earlier + items;
+    let counted = head.earlier + items;
     if next < s.len() {
         return none_kept(Fault {
             reason: Refusal::TrailingBytes,
@@ -118,10 +117,10 @@ fn keep_arguments(
             passed: counted,
         });
     }
-    let area = plan_placing::area_of(convention, c);
+    let area = plan_placing::area_of(head.convention, c);
     KeptArguments {
         measured: Measured {
-            outcome: Outcome::Accepted(counted),
+            outcome: Ok(counted),
             area,
             values,
             copies: c.copies,
@@ -132,68 +131,48 @@ fn keep_arguments(
 }
 
 // The outcome of a call whose first unclear argument has this number, counted from 1, or 0; `read` is the outcome of its reading.
-fn outcome_of(sig: &[u8], unclear: usize, read: Outcome) -> Outcome
+fn outcome_of(sig: &[u8], unclear: usize, read: Result<usize, Fault>) -> Result<usize, Fault>
     ensures { result ≡ outcome_by unclear read (signature_of sig.now) }
 {
     if unclear == 0 {
-        return read;
+        read
+    } else {
+        Err(sig_reader::unclear_fault(sig, unclear - 1))
     }
-    Outcome::Refused(sig_reader::unclear_fault(sig, unclear - 1))
 }
 
 // A call by its bytes, what stands before its arguments being read.
-pub fn keep_call(
-    sig: &[u8],
-    convention: Convention,
-    ellipsis: bool,
-    returned: ResultType,
-    at: usize,
-    end: usize,
-    earlier: usize,
-    kept: &mut [u16],
-) -> KeptCall
-    requires { HeadIs sig.now convention returned ellipsis at end earlier × RoomFor row_length at end (length kept.old) }
+pub fn keep_call(sig: &[u8], head: Head, kept: &mut [u16]) -> KeptCall
+    requires { HeadIs sig.now head.convention head.result head.ellipsis head.at head.end head.earlier × RoomFor row_length head.at head.end (length kept.old) }
     ensures sizes_value { result.sizes ≡ sizes_for sig.now }
-    ensures kept_where { KeptWhere result.sizes.outcome sig.now convention kept.new result.count }
+    ensures kept_where { KeptWhere result.sizes.outcome sig.now head.convention kept.new result.count }
 {
-    let p = keep_arguments(sig, convention, ellipsis, returned, at, end, earlier, kept);
+    let p = keep_arguments(sig, head, kept);
     let m = p.measured;
-    let read = m.outcome;
-    let outcome = outcome_of(sig, p.unclear, read);
+    let outcome = outcome_of(sig, p.unclear, m.outcome);
     KeptCall {
-        sizes: Measured {
-            outcome,
-            area: m.area,
-            values: m.values,
-            copies: m.copies,
-        },
+        sizes: Measured { outcome, ..m },
         count: p.count,
     }
 }
 
 // The sizes of a call without arguments: nothing stands between `end` and where they would.
-pub fn measure_none(
-    sig: &[u8],
-    convention: Convention,
-    returned: ResultType,
-    end: usize,
-    earlier: usize,
-) -> Measured
-    requires { NoneLeft sig.now convention returned end earlier }
+pub fn measure_none(sig: &[u8], head: Head) -> Measured
+    requires { NoneLeft sig.now head.convention head.result head.end head.earlier }
     ensures { result ≡ sizes_for sig.now }
 {
-    let counted = earlier + 1;
-    if end < sig.len() {
+    let counted = head.earlier + 1;
+    if head.end < sig.len() {
         return plan_planning::no_measure(Fault {
             reason: Refusal::TrailingBytes,
-            place: end,
+            place: head.end,
             passed: counted,
         });
     }
-    let c = first_cursor(convention, returned);
-    let area = plan_placing::area_of(convention, c);
+    let c = first_cursor(head.convention, head.result);
+    let area = plan_placing::area_of(head.convention, c);
     Measured {
-        outcome: Outcome::Accepted(counted),
+        outcome: Ok(counted),
         area,
         values: 0,
         copies: c.copies,

@@ -1,4 +1,5 @@
 -- A filling that no test refuses has room for every slot: what its helpers ask. Assumes nothing.
+use Rattle.sig_types.specs.declared.ValueType.{ValueType}
 use mathlib.Core.Path.{◌≡◌, refl, sym, ap, ap₂, ◌∙◌}
 use mathlib.Core.Bool.{Bool, true, false}
 use mathlib.Core.List.{List, [], ◌++◌}
@@ -23,12 +24,10 @@ use Rattle.base_conventions.specs.declared.Convention.{Convention}
 use Rattle.sig_types.specs.Sizes.{size_of}
 use Rattle.sig_items.specs.declared.Fault.{Fault}
 use lib.ListN.{length}
-use Rattle.sig_signatures.specs.declared.Outcome.{Outcome}
 use Rattle.sig_items.specs.Reading.{Reading, no}
 use Rattle.sig_signatures.specs.Signature.{Signature}
 use Rattle.sig_signatures.specs.Read.{signature_of}
 use Rattle.plan_plans.specs.Call.{called, outcome_for}
-use Rattle.sig_signatures.specs.declared.ResultType.{ResultType}
 use Rattle.plan_places.specs.declared.ResultPlaces.{ResultPlaces}
 use Rattle.plan_places.specs.declared.Span.{Span}
 use Rattle.plan_places.specs.Values.{pointer}
@@ -38,11 +37,10 @@ use Rattle.plan_places.specs.ZSeries.{z_class, z_span_of}
 use Rattle.plan_plans.specs.declared.Plan.{Plan}
 use Rattle.plan_plans.specs.declared.Measured.{Measured}
 use Rattle.plan_plans.specs.Plan.{hidden_in, result_places_in, plan_answer}
-use Rattle.call_slots.specs.declared.CallAnswer.{CallAnswer}
 use Rattle.call_slots.specs.Buffers.{Buffers, buffers, Slot, put, put_all}
 use Rattle.call_slots.specs.Placements.{Placement, hidden_slots, slots_of_all}
 use Rattle.call_slots.specs.Helpers.{Held, Fits, sizes_of}
-use Rattle.call_slots.specs.Refusals.{differ, first_of, is_refused}
+use Rattle.call_slots.specs.Refusals.{differ, first_of}
 use Rattle.call_slots.specs.Arguments.{arguments_of, plan_for, sizes_for, rules_for}
 use Rattle.call_slots.proofs.Answered.{carried}
 use Rattle.call_kept.specs.Helpers.{kept_all, KeptEach}
@@ -55,6 +53,8 @@ use Rattle.call_marshal.specs.Helpers.{CanPut}
 use Rattle.call_fill.specs.declared.FillLengths.{FillLengths}
 use Rattle.call_fill.specs.Fill.{bad_copies, high_address, fill_tests, fill_answer, filled_slots, fill_buffers}
 use Rattle.call_fill.specs.Helpers.{address_places}
+use Rattle.std.proofs.Common.{Ok, Err, is_err, Some, None, Option}
+use Rattle.call_slots.specs.Answer.{CallAnswer, call_done, call_unread}
 
 -- ---- the tests
 copies-good : (e n base : ℕ) → base < 2 ^ 64 → bad_copies e n base ≡ false → (e ≤ n) × (base + e < 2 ^ 64)
@@ -86,7 +86,7 @@ pub record Lent (have : FillLengths) (p : Plan) (base : ℕ) : Type 0 where
   pub low : base + p.copies < 2 ^ 64
 
 pub tests-passed : (have : FillLengths) (p : Plan) (base : ℕ) (high : Bool) → base < 2 ^ 64
-    → first_of (fill_tests have p.values p.area p.copies base high) ≡ CallAnswer.Done → Lent have p base
+    → first_of (fill_tests have p.values p.area p.copies base high) ≡ call_done → Lent have p base
 unfolding fill_tests
 tests-passed have p base high low e =
     let a = first_done _ _ e in
@@ -103,7 +103,7 @@ tests-passed have p base high low e =
     }
 
 -- nor is the hidden address too high
-pub tests-low : (have : FillLengths) (values area copies base : ℕ) (high : Bool) → first_of (fill_tests have values area copies base high) ≡ CallAnswer.Done → high ≡ false
+pub tests-low : (have : FillLengths) (values area copies base : ℕ) (high : Bool) → first_of (fill_tests have values area copies base high) ≡ call_done → high ≡ false
 unfolding fill_tests
 tests-low have values area copies base high e =
     let a = first_done _ _ e in
@@ -114,7 +114,7 @@ tests-low have values area copies base high e =
 
 -- the same of sizes m that were measured
 pub tests-lent : (s : List ℕ) (have : FillLengths) (base : ℕ) (m : Measured) (high : Bool) → base < 2 ^ 64 → m ≡ sizes_for s
-    → first_of (fill_tests have m.values m.area m.copies base high) ≡ CallAnswer.Done → Lent have (plan_for s) base
+    → first_of (fill_tests have m.values m.area m.copies base high) ≡ call_done → Lent have (plan_for s) base
 tests-lent s have base m high low p e = tests-passed have (plan_for s) base high low (rw p at e)
 
 -- ---- the arguments
@@ -163,11 +163,11 @@ register-low Convention.Aix = omega arith
 register-low Convention.Ppc64b = omega arith
 
 -- a result's other places are none to whoever looks for the hidden address alone
-hidden-alone : {A : Type 0} (f : ResultPlaces → A) → ((s : Span) → f (ResultPlaces.Registers s) ≡ f ResultPlaces.Nothing) → (c : Convention) (t : ResultType)
+hidden-alone : {A : Type 0} (f : ResultPlaces → A) → ((s : Span) → f (ResultPlaces.Registers s) ≡ f ResultPlaces.Nothing) → (c : Convention) (t : Option ValueType)
     → f (address_places c (hidden_in c t)) ≡ f (result_places_in c t)
 unfolding result_of
-hidden-alone f none c ResultType.Nothing = refl
-hidden-alone f none c (ResultType.Value t) = go (hidden_for (rules_of c) t)
+hidden-alone f none c None = refl
+hidden-alone f none c (Some t) = go (hidden_for (rules_of c) t)
   where
     go : (b : Bool) → f (address_places c b)
         ≡ f (pick b (ResultPlaces.Hidden (span_of (rules_of c) (fresh_cursor (rules_of c)) pointer (word_of (rules_of c))))
@@ -178,23 +178,23 @@ hidden-alone f none c (ResultType.Value t) = go (hidden_for (rules_of c) t)
 -- ---- the answer and the buffers
 
 -- a signature that is not read
-pub answer-unread : (s : List ℕ) (have : FillLengths) (base address : ℕ) (f : Fault) → signature_of s ≡ no f → CallAnswer.Unread f ≡ fill_answer s have base address
+pub answer-unread : (s : List ℕ) (have : FillLengths) (base address : ℕ) (f : Fault) → signature_of s ≡ no f → call_unread f ≡ fill_answer s have base address
 unfolding fill_answer called plan_answer
-answer-unread s have base address f q = let o : outcome_for s ≡ Outcome.Refused f = ap (λ (x : Reading Signature). (plan_answer (called x)).outcome) q in rw o
+answer-unread s have base address f q = let o : outcome_for s ≡ Err f = ap (λ (x : Reading Signature). (plan_answer (called x)).outcome) q in rw o
 
 module _ (s : List ℕ) where
-  pub answer-refused : (have : FillLengths) (base address : ℕ) (m : Measured) (f : Fault) → m ≡ sizes_for s → m.outcome ≡ Outcome.Refused f
-      → CallAnswer.Unread f ≡ fill_answer s have base address
+  pub answer-refused : (have : FillLengths) (base address : ℕ) (m : Measured) (f : Fault) → m ≡ sizes_for s → m.outcome ≡ Err f
+      → call_unread f ≡ fill_answer s have base address
   unfolding fill_answer
   answer-refused have base address m f p e = rw (rw p at e)
 
-  module _ (c : Convention) (t : ResultType) (v : Bool) (head : Headed s c t v) where
+  module _ (c : Convention) (t : Option ValueType) (v : Bool) (head : Headed s c t v) where
     -- the word of the signature's convention
     word_read : word_bytes c ≡ word_of (rules_for s)
     word_read = sym (word-marked v (rules_of c) ∙ rules-word c) ∙ ap word_of head.rules
 
     pub answer-tested : (have : FillLengths) (base address n : ℕ) (m : Measured) (hidden high : Bool) (a : CallAnswer)
-        → m ≡ sizes_for s → hidden ≡ hidden_in c t → high ≡ high_address (word_bytes c) (address_places c hidden) address → m.outcome ≡ Outcome.Accepted n
+        → m ≡ sizes_for s → hidden ≡ hidden_in c t → high ≡ high_address (word_bytes c) (address_places c hidden) address → m.outcome ≡ Ok n
         → a ≡ first_of (fill_tests have m.values m.area m.copies base high) → a ≡ fill_answer s have base address
     unfolding fill_answer
     answer-tested have base address n m hidden high a p x z e q =
@@ -254,18 +254,17 @@ pub hidden-length : (w : ℕ) (q : ResultPlaces) (address : ℕ) (image i : List
 hidden-length w q address image i e = ap (λ (b : Buffers). length b.image) e ∙ (put_all-lengths (hidden_slots w q address) (buffers image [] [])).image
 
 -- a refusal leaves them
-pub buffers-kept : (s values : List ℕ) (base hidden : ℕ) (a : CallAnswer) (b : Buffers) → is_refused a ≡ true → b ≡ fill_buffers s values base hidden a b
+pub buffers-kept : (s values : List ℕ) (base hidden : ℕ) (a : CallAnswer) (b : Buffers) → is_err a ≡ true → b ≡ fill_buffers s values base hidden a b
 unfolding fill_buffers
-buffers-kept s values base hidden CallAnswer.Done b e = let z : ◌≡◌ {A = ℕ} 0 1 = cc in absurd (omega arith)
-buffers-kept s values base hidden (CallAnswer.Unread f) b e = refl
-buffers-kept s values base hidden (CallAnswer.Refused reason) b e = refl
+buffers-kept s values base hidden (Ok tt) b e = let z : ◌≡◌ {A = ℕ} 0 1 = cc in absurd (omega arith)
+buffers-kept s values base hidden (Err x) b e = refl
 
 -- the hidden address is put, and then the arguments' slots
 pub buffers-done : (s values image area copies i : List ℕ) (base address w : ℕ) (q : ResultPlaces) (slots : List Slot) (b : Buffers)
     → hidden_slots w q address ++ slots ≡ filled_slots s values base address
     → buffers i [] [] ≡ put_all (hidden_slots w q address) (buffers image [] [])
     → b ≡ put_all slots (buffers i area copies)
-    → b ≡ fill_buffers s values base address CallAnswer.Done (buffers image area copies)
+    → b ≡ fill_buffers s values base address call_done (buffers image area copies)
 unfolding fill_buffers
 buffers-done s values image area copies i base address w q slots b e x y =
     let whole = hidden-whole w q address image area copies i x in

@@ -1,18 +1,18 @@
 -- Filling: its answer, and what the buffers hold afterwards. Document 01, "When the bridge says no" and "What stands in a slot".
 -- Assumes nothing.
-use Rattle.std.specs.Prelude.{ℕ, ◌+◌, ◌-◌, ◌*◌, ◌%◌, ◌^◌, Bool, true, false, List, [], ◌∷◌, ◌++◌, eqb, ltb, length}
+use Rattle.std.specs.Prelude.{ℕ, ◌+◌, ◌-◌, ◌*◌, ◌%◌, ◌^◌, Bool, true, false, List, [], ◌∷◌, ◌++◌, eqb, ltb, length, is_ok}
 use Rattle.base_words.specs.Basics.{pick}
 use Rattle.plan_places.specs.declared.ResultPlaces.{ResultPlaces}
 use Rattle.plan_places.specs.Step.{word_of}
 use Rattle.plan_places.specs.Spots.{image_bytes}
 use Rattle.call_slots.specs.declared.CallRefusal.{CallRefusal}
-use Rattle.call_slots.specs.declared.CallAnswer.{CallAnswer}
 use Rattle.call_slots.specs.Buffers.{Buffers, Slot, put_all}
 use Rattle.call_slots.specs.Placements.{slots_of_all, hidden_slots}
-use Rattle.call_slots.specs.Refusals.{Test, test, differ, first_of, after_reading, is_done}
+use Rattle.call_slots.specs.Refusals.{Test, test, differ, first_of, after_reading}
 use Rattle.plan_plans.specs.Call.{outcome_for}
 use Rattle.call_slots.specs.Arguments.{arguments_of, plan_for, rules_for}
 use Rattle.call_fill.specs.declared.FillLengths.{FillLengths}
+use Rattle.call_slots.specs.Answer.{CallAnswer}
 
 abbrev pub fill_lengths : List ℕ → List ℕ → List ℕ → List ℕ → FillLengths
 fill_lengths values image area copies = record { values = length values; image = length image; area = length area; copies = length copies }
@@ -58,4 +58,4 @@ filled_slots s values base hidden =
 
 -- "Filling changes only named slots and copies"; "Every refusal leaves all buffers .. untouched"
 unfoldable pub fill_buffers : List ℕ → List ℕ → ℕ → ℕ → CallAnswer → Buffers → Buffers
-fill_buffers s values base hidden answer b = pick (is_done answer) (put_all (filled_slots s values base hidden) b) b
+fill_buffers s values base hidden answer b = pick (is_ok answer) (put_all (filled_slots s values base hidden) b) b

@@ -17,9 +17,10 @@ ghost use Rattle.call_fill.specs.Helpers.{address_places};
 
 use base_conventions::Convention;
 use call_kept::ROW;
-use call_slots::{CallAnswer, CallRefusal};
+use call_slots::{CallError, CallRefusal};
 use plan_places::{CallRules, IMAGE_BYTES};
-use sig_signatures::{FEW_ARGUMENTS, FEW_BYTES, HeadRead, MAX_ARGUMENTS, Outcome, ResultType};
+use sig_signatures::{FEW_ARGUMENTS, FEW_BYTES, Head, MAX_ARGUMENTS};
+use sig_types::ValueType;
 
 // The lengths of the lent buffers.
 #[derive(Clone, Copy)]
@@ -46,15 +47,13 @@ fn put_arguments(
     ensures { buffers image.new area.new copies.new ≡ put_all (slots_of_all rules base (kept_all convention kept.now count) values.now) (buffers image.old area.old copies.old) }
 {
     let mut v: usize = 0;
-    let mut i: usize = 0;
-    while i < count {
+    for i in 0..count {
         let t = call_kept::type_at(kept, i);
         let s = call_kept::span_at(kept, i);
         let size = sig_types::size_of(convention, t);
         let to = v + size;
         call_marshal::put_argument(image, area, copies, rules, t, s, &values[v..to], base);
         v = to;
-        i = i + 1;
     }
 }
 
@@ -91,10 +90,7 @@ fn bad_copies(e: usize, n: usize, base: u64) -> bool
 fn high_address(c: Convention, hidden: bool, address: u64) -> bool
     ensures { result ≡ high_address (word_bytes c) (address_places c hidden) address }
 {
-    if hidden {
-        return base_words::zero_extend(address, base_conventions::word_bytes(c)) < address;
-    }
-    false
+    hidden && base_words::zero_extend(address, base_conventions::word_bytes(c)) < address
 }
 
 // Whether the buffers have the lengths that a plan asks for, and the hidden address is not too high.
@@ -105,25 +101,25 @@ fn tested(
     copies: usize,
     base: u64,
     high: bool,
-) -> CallAnswer
+) -> Result<(), CallError>
     ensures { result ≡ first_of (fill_tests have values area copies base high) }
 {
     if have.image != IMAGE_BYTES {
-        return CallAnswer::Refused(CallRefusal::ImageSize);
+        return Err(CallError::Refused(CallRefusal::ImageSize));
     }
     if have.values != values {
-        return CallAnswer::Refused(CallRefusal::ValuesSize);
+        return Err(CallError::Refused(CallRefusal::ValuesSize));
     }
     if have.area < area {
-        return CallAnswer::Refused(CallRefusal::AreaTooShort);
+        return Err(CallError::Refused(CallRefusal::AreaTooShort));
     }
     if bad_copies(copies, have.copies, base) {
-        return CallAnswer::Refused(CallRefusal::BadCopies);
+        return Err(CallError::Refused(CallRefusal::BadCopies));
     }
     if high {
-        return CallAnswer::Refused(CallRefusal::BadCopies);
+        return Err(CallError::Refused(CallRefusal::BadCopies));
     }
-    CallAnswer::Done
+    Ok(())
 }
 
 // A call without arguments, what stands before them being read: nothing is kept, and only the hidden address is put.
@@ -135,36 +131,25 @@ fn fill_none(
     copies: &mut [u8],
     base: u64,
     address: u64,
-    convention: Convention,
-    returned: ResultType,
-    end: usize,
-    earlier: usize,
-) -> CallAnswer
-    requires { NoneLeft sig.now convention returned end earlier }
+    head: Head,
+) -> Result<(), CallError>
+    requires { NoneLeft sig.now head.convention head.result head.end head.earlier }
     ensures value { result ≡ fill_answer sig.now (fill_lengths values.now image.old area.old copies.old) base address }
     ensures copies_after { buffers image.new area.new copies.new ≡ fill_buffers sig.now values.now base address result (buffers image.old area.old copies.old) }
 {
-    let m = call_arguments::measure_none(sig, convention, returned, end, earlier);
-    let outcome = m.outcome;
-    match outcome {
-        Outcome::Refused(fault) => CallAnswer::Unread(fault),
-        Outcome::Accepted(_) => {
-            let hidden = plan_planning::hidden_in(convention, returned);
-            let high = high_address(convention, hidden, address);
-            let have = FillLengths {
-                values: values.len(),
-                image: image.len(),
-                area: area.len(),
-                copies: copies.len(),
-            };
-            let answer = tested(have, m.values, m.area, m.copies, base, high);
-            if call_slots::is_refused(answer) {
-                return answer;
-            }
-            put_hidden(image, convention, hidden, address);
-            CallAnswer::Done
-        }
-    }
+    let m = call_arguments::measure_none(sig, head);
+    m.outcome?;
+    let hidden = plan_planning::hidden_in(head.convention, head.result);
+    let high = high_address(head.convention, hidden, address);
+    let have = FillLengths {
+        values: values.len(),
+        image: image.len(),
+        area: area.len(),
+        copies: copies.len(),
+    };
+    tested(have, m.values, m.area, m.copies, base, high)?;
+    put_hidden(image, head.convention, hidden, address);
+    Ok(())
 }
 
 // A call with arguments, which are kept until all tests are made.
@@ -176,45 +161,39 @@ fn fill_part(
     copies: &mut [u8],
     base: u64,
     address: u64,
-    convention: Convention,
-    returned: ResultType,
-    ellipsis: bool,
-    at: usize,
-    end: usize,
-    earlier: usize,
+    head: Head,
     kept: &mut [u16],
-) -> CallAnswer
-    requires { HeadIs sig.now convention returned ellipsis at end earlier × RoomFor row_length at end (length kept.old) }
+) -> Result<(), CallError>
+    requires { HeadIs sig.now head.convention head.result head.ellipsis head.at head.end head.earlier × RoomFor row_length head.at head.end (length kept.old) }
     ensures value { result ≡ fill_answer sig.now (fill_lengths values.now image.old area.old copies.old) base address }
     ensures copies_after { buffers image.new area.new copies.new ≡ fill_buffers sig.now values.now base address result (buffers image.old area.old copies.old) }
 {
-    let p = call_arguments::keep_call(sig, convention, ellipsis, returned, at, end, earlier, kept);
-    let count = p.count;
+    let p = call_arguments::keep_call(sig, head, kept);
     let m = p.sizes;
-    let outcome = m.outcome;
-    match outcome {
-        Outcome::Refused(fault) => CallAnswer::Unread(fault),
-        Outcome::Accepted(_) => {
-            let hidden = plan_planning::hidden_in(convention, returned);
-            let high = high_address(convention, hidden, address);
-            let have = FillLengths {
-                values: values.len(),
-                image: image.len(),
-                area: area.len(),
-                copies: copies.len(),
-            };
-            let answer = tested(have, m.values, m.area, m.copies, base, high);
-            if call_slots::is_refused(answer) {
-                return answer;
-            }
-            let rules = call_arguments::rules_in(convention, ellipsis);
-            put_hidden(image, convention, hidden, address);
-            put_arguments(
-                image, area, copies, rules, convention, count, kept, values, base,
-            );
-            CallAnswer::Done
-        }
-    }
+    m.outcome?;
+    let hidden = plan_planning::hidden_in(head.convention, head.result);
+    let high = high_address(head.convention, hidden, address);
+    let have = FillLengths {
+        values: values.len(),
+        image: image.len(),
+        area: area.len(),
+        copies: copies.len(),
+    };
+    tested(have, m.values, m.area, m.copies, base, high)?;
+    let rules = call_arguments::rules_in(head.convention, head.ellipsis);
+    put_hidden(image, head.convention, hidden, address);
+    put_arguments(
+        image,
+        area,
+        copies,
+        rules,
+        head.convention,
+        p.count,
+        kept,
+        values,
+        base,
+    );
+    Ok(())
 }
 
 // Puts the values of a call's arguments in the register image, the parameter area and the copies, and the hidden address of a result
@@ -227,38 +206,22 @@ pub fn fill(
     copies: &mut [u8],
     base: u64,
     hidden: u64,
-) -> CallAnswer
+) -> Result<(), CallError>
     ensures value { result ≡ fill_answer sig.now (fill_lengths values.now image.old area.old copies.old) base hidden }
     ensures copies_after { buffers image.new area.new copies.new ≡ fill_buffers sig.now values.now base hidden result (buffers image.old area.old copies.old) }
 {
-    match sig_head::read_head(sig) {
-        HeadRead::Refused(fault) => CallAnswer::Unread(fault),
-        HeadRead::Head {
-            convention,
-            result,
-            ellipsis,
-            at,
-            end,
-            earlier,
-        } => {
-            if at == end {
-                return fill_none(
-                    sig, values, image, area, copies, base, hidden, convention, result, end,
-                    earlier,
-                );
-            }
-            if end - at <= FEW_BYTES {
-                let mut few = [0u16; ROW * FEW_ARGUMENTS];
-                return fill_part(
-                    sig, values, image, area, copies, base, hidden, convention, result, ellipsis,
-                    at, end, earlier, &mut few,
-                );
-            }
-            let mut many = [0u16; ROW * MAX_ARGUMENTS];
-            fill_part(
-                sig, values, image, area, copies, base, hidden, convention, result, ellipsis, at,
-                end, earlier, &mut many,
-            )
-        }
+    let head = sig_head::read_head(sig)?;
+    if head.at == head.end {
+        return fill_none(sig, values, image, area, copies, base, hidden, head);
     }
+    if head.end - head.at <= FEW_BYTES {
+        let mut few = [0u16; ROW * FEW_ARGUMENTS];
+        return fill_part(
+            sig, values, image, area, copies, base, hidden, head, &mut few,
+        );
+    }
+    let mut many = [0u16; ROW * MAX_ARGUMENTS];
+    fill_part(
+        sig, values, image, area, copies, base, hidden, head, &mut many,
+    )
 }

@@ -4,13 +4,11 @@ use mathlib.Core.List.{List}
 use Prim.Native.Nat.{ℕ}
 use native.Mathlib.Omega.{arith}
 use Rattle.sig_items.specs.declared.Fault.{Fault}
-use Rattle.sig_signatures.specs.declared.Outcome.{Outcome}
 use Rattle.plan_plans.specs.Call.{outcome_for}
-use Rattle.call_slots.specs.Refusals.{after_reading, is_done}
+use Rattle.call_slots.specs.Refusals.{after_reading}
 use Rattle.call_slots.specs.Buffers.{Buffers}
 use Rattle.call_fill.specs.declared.FillLengths.{FillLengths}
 use Rattle.call_fill.specs.Fill.{fill_answer, fill_buffers}
-use Rattle.plan_stored.specs.declared.CheckAnswer.{CheckAnswer}
 use Rattle.plan_stored.specs.Stored.{stored_of, compared, check_by, check_answer}
 use Rattle.plan_stored.proofs.Theorems.{checks-exactly, refused-check}
 use Rattle.call_fill_stored.specs.FillStored.{stored_fill_answer, stored_fill_buffers}

@@ -6,14 +6,13 @@ ghost use Rattle.call_slots.specs.Buffers.{buffers};
 ghost use Rattle.call_fill.specs.Fill.{fill_lengths};
 ghost use Rattle.call_fill_stored.specs.FillStored.{stored_fill_answer, stored_fill_buffers};
 
-use call_slots::CallAnswer;
-use plan_stored::CheckAnswer;
+use call_slots::CallError;
 
-// As plain filling answers; or stored bytes that are stale, with the place of the first difference.
-#[derive(Clone, Copy)]
-pub enum StoredFill {
-    Plain(CallAnswer),
+// Why filling by a stored plan is refused: the stored bytes are stale, with the place of the first difference; or as plain filling is.
+#[derive(Clone, Copy, Debug, PartialEq, Eq)]
+pub enum StoredError {
     Stale(usize),
+    Call(CallError),
 }
 
 pub fn fill_stored(
@@ -25,16 +24,16 @@ pub fn fill_stored(
     copies: &mut [u8],
     base: u64,
     hidden: u64,
-) -> StoredFill
+) -> Result<(), StoredError>
     ensures value { result ≡ stored_fill_answer stored.now sig.now (fill_lengths values.now image.old area.old copies.old) base hidden }
     ensures copies_after { buffers image.new area.new copies.new ≡ stored_fill_buffers stored.now sig.now values.now (fill_lengths values.now image.old area.old copies.old) base hidden (buffers image.old area.old copies.old) }
 {
     match plan_stored::check_plan(stored, sig) {
-        CheckAnswer::Differs(place) => StoredFill::Stale(place),
-        CheckAnswer::Refused(fault) => StoredFill::Plain(CallAnswer::Unread(fault)),
-        CheckAnswer::Same => {
-            let answer = call_fill::fill(sig, values, image, area, copies, base, hidden);
-            StoredFill::Plain(answer)
-        }
+        Ok(Some(place)) => Err(StoredError::Stale(place)),
+        Err(fault) => Err(StoredError::Call(CallError::Unread(fault))),
+        Ok(None) => match call_fill::fill(sig, values, image, area, copies, base, hidden) {
+            Ok(()) => Ok(()),
+            Err(e) => Err(StoredError::Call(e)),
+        },
     }
 }

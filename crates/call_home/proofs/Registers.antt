@@ -12,17 +12,15 @@ use Rattle.base_words.specs.Basics.{All}
 use Rattle.base_words.specs.Splice.{splice}
 use Rattle.base_words.proofs.Splices.{length-splice}
 use Rattle.base_words.proofs.Each.{each-with}
-use Rattle.sig_signatures.specs.declared.Outcome.{Outcome}
 use Rattle.sig_signatures.specs.declared.SignatureRead.{SignatureRead}
 use Rattle.sig_signatures.specs.Read.{signature_of}
 use Rattle.sig_signatures.specs.Answer.{signature_answer}
 use Rattle.plan_places.specs.declared.CallRules.{CallRules}
 use Rattle.plan_plans.specs.declared.Plan.{Plan}
-use Rattle.call_slots.specs.declared.CallAnswer.{CallAnswer}
 use Rattle.sig_items.specs.declared.Fault.{Fault}
 use Rattle.call_slots.specs.Placements.{Placement}
 use Rattle.call_slots.specs.Helpers.{Held, Fits}
-use Rattle.call_slots.specs.Refusals.{first_of, or_else, after_reading, is_refused}
+use Rattle.call_slots.specs.Refusals.{first_of, or_else, after_reading}
 use Rattle.plan_plans.specs.Call.{outcome_for}
 use Rattle.call_slots.specs.Arguments.{placements_in, arguments_of, plan_for, rules_in, rules_for}
 use Rattle.call_slots.proofs.Planned.{in_image_lem}
@@ -35,6 +33,8 @@ use Rattle.call_home_slot.proofs.Homed.{homed_all}
 use Rattle.call_home_slot.proofs.Marked.{homeless-marked}
 use Rattle.call_home_slot.specs.Homes.{homeless, homed_bytes}
 use Rattle.call_home_slot.specs.Helpers.{Homed, Registered}
+use Rattle.std.proofs.Common.{Ok, Err, is_err, Result}
+use Rattle.call_slots.specs.Answer.{CallAnswer, call_done, call_unread}
 
 -- ---- the loop
 
@@ -72,7 +72,7 @@ pub record HomeLent (r : CallRules) (i have area : ℕ) : Type 0 where
   pub image : i ≡ 512
   pub room : area ≤ have
 
-pub home-passed : (r : CallRules) (i have area : ℕ) → first_of (home_tests r i have area) ≡ CallAnswer.Done → HomeLent r i have area
+pub home-passed : (r : CallRules) (i have area : ℕ) → first_of (home_tests r i have area) ≡ call_done → HomeLent r i have area
 unfolding home_tests
 home-passed (CallRules.Power f) i have area e =
     let a = first_done _ _ e in
@@ -112,12 +112,12 @@ all-registered s g p i read plan power image =
 -- ---- the answer and the area
 
 module _ (s image : List ℕ) (have : ℕ) where
-  pub home-refused : (f : Fault) → outcome_for s ≡ Outcome.Refused f
-      → CallAnswer.Unread f ≡ home_answer s image have
+  pub home-refused : (f : Fault) → outcome_for s ≡ Err f
+      → call_unread f ≡ home_answer s image have
   unfolding home_answer
   home-refused f e = rw e
 
-  module _ (g : SignatureRead) (p : Plan) (n : ℕ) (read : g ≡ signature_answer (signature_of s)) (plan : p ≡ plan_for s) (e : outcome_for s ≡ Outcome.Accepted n) where
+  module _ (g : SignatureRead) (p : Plan) (n : ℕ) (read : g ≡ signature_answer (signature_of s)) (plan : p ≡ plan_for s) (e : outcome_for s ≡ Ok n) where
     -- of the lengths l and the registers a
     whole : (l a : CallAnswer) → l ≡ first_of (home_tests (rules_in g) (length image) have p.area)
         → a ≡ registers_answer (rules_in g) (placements_in g p) image → or_else l a ≡ home_answer s image have
@@ -125,22 +125,21 @@ module _ (s image : List ℕ) (have : ℕ) where
     whole l a x y =
         ap₂ or_else x y
         ∙ ap₂ (λ (g : SignatureRead) (p : Plan). or_else (first_of (home_tests (rules_in g) (length image) have p.area)) (registers_answer (rules_in g) (placements_in g p) image)) read plan
-        ∙ sym (ap (λ (o : Outcome). after_reading o (or_else (first_of (home_tests (rules_for s) (length image) have (plan_for s).area)) (registers_answer (rules_for s) (arguments_of s) image))) e)
+        ∙ sym (ap (λ (o : Result ℕ Fault). after_reading o (or_else (first_of (home_tests (rules_for s) (length image) have (plan_for s).area)) (registers_answer (rules_for s) (arguments_of s) image))) e)
 
-    pub home-lengths : (l : CallAnswer) → l ≡ first_of (home_tests (rules_in g) (length image) have p.area) → is_refused l ≡ true → l ≡ home_answer s image have
+    pub home-lengths : (l : CallAnswer) → l ≡ first_of (home_tests (rules_in g) (length image) have p.area) → is_err l ≡ true → l ≡ home_answer s image have
     home-lengths l x t = sym (or-refused l _ t) ∙ whole l (registers_answer (rules_in g) (placements_in g p) image) x refl
 
-    pub home-registers : (l a : CallAnswer) → l ≡ first_of (home_tests (rules_in g) (length image) have p.area) → is_refused l ≡ false
+    pub home-registers : (l a : CallAnswer) → l ≡ first_of (home_tests (rules_in g) (length image) have p.area) → is_err l ≡ false
         → a ≡ registers_answer (rules_in g) (placements_in g p) image → a ≡ home_answer s image have
     home-registers l a x t y = ap (λ (z : CallAnswer). or_else z a) (sym (not-refused l t)) ∙ whole l a x y
 
-pub area-kept : (s : List ℕ) (a : CallAnswer) (image area : List ℕ) → is_refused a ≡ true → area ≡ home_area s a image area
+pub area-kept : (s : List ℕ) (a : CallAnswer) (image area : List ℕ) → is_err a ≡ true → area ≡ home_area s a image area
 unfolding home_area
-area-kept s CallAnswer.Done image area e = let z : ◌≡◌ {A = ℕ} 0 1 = cc in absurd (omega arith)
-area-kept s (CallAnswer.Unread f) image area e = refl
-area-kept s (CallAnswer.Refused reason) image area e = refl
+area-kept s (Ok tt) image area e = let z : ◌≡◌ {A = ℕ} 0 1 = cc in absurd (omega arith)
+area-kept s (Err x) image area e = refl
 
 pub area-homed : (s image area last : List ℕ) (g : SignatureRead) (p : Plan) → g ≡ signature_answer (signature_of s) → p ≡ plan_for s
-    → last ≡ homed (rules_in g) (placements_in g p) image area → last ≡ home_area s CallAnswer.Done image area
+    → last ≡ homed (rules_in g) (placements_in g p) image area → last ≡ home_area s call_done image area
 unfolding home_area arguments_of
 area-homed s image area last g p read plan e = rw (← read, ← plan) e

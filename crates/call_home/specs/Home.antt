@@ -1,18 +1,18 @@
 -- Home: the arguments in registers, copied into the parameter area. Document 01, "What stands in a slot": "Home (PPC64) copies each argument's
 -- register doublewords into the area at its offset: GPRs as they stand, an FPR in its memory form (14 possible). The hidden address's doubleword
 -- and all else stay". Assumes nothing.
-use Rattle.std.specs.Prelude.{ℕ, List, [], ◌∷◌, ltb, length}
+use Rattle.std.specs.Prelude.{ℕ, List, [], ◌∷◌, ltb, length, is_ok}
 use Rattle.base_words.specs.Basics.{pick}
 use Rattle.base_words.specs.Splice.{splice}
 use Rattle.plan_places.specs.declared.CallRules.{CallRules}
 use Rattle.plan_places.specs.Spots.{image_bytes}
 use Rattle.call_slots.specs.declared.CallRefusal.{CallRefusal}
-use Rattle.call_slots.specs.declared.CallAnswer.{CallAnswer}
 use Rattle.call_slots.specs.Placements.{Placement}
-use Rattle.call_slots.specs.Refusals.{Test, test, differ, first_of, after_reading, or_else, first_of_all, is_done}
+use Rattle.call_slots.specs.Refusals.{Test, test, differ, first_of, after_reading, or_else, first_of_all}
 use Rattle.plan_plans.specs.Call.{outcome_for}
 use Rattle.call_slots.specs.Arguments.{arguments_of, plan_for, rules_for}
 use Rattle.call_home_slot.specs.Homes.{homeless, register_answer, homed_bytes}
+use Rattle.call_slots.specs.Answer.{CallAnswer}
 
 -- ---- the answer
 
@@ -41,4 +41,4 @@ homed r (p ∷ ps) image area = homed r ps image (splice area p.span.home.start 
 
 -- "Every refusal leaves all buffers .. untouched"
 unfoldable pub home_area : List ℕ → CallAnswer → List ℕ → List ℕ → List ℕ
-home_area s answer image area = pick (is_done answer) (homed (rules_for s) (arguments_of s) image area) area
+home_area s answer image area = pick (is_ok answer) (homed (rules_for s) (arguments_of s) image area) area

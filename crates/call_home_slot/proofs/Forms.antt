@@ -1,4 +1,5 @@
 -- An argument's registers as memory holds them. Assumes nothing.
+use Rattle.std.proofs.Common.{Option, Some, None}
 use mathlib.Core.Path.{◌≡◌, refl, sym, ap, ◌∙◌}
 use mathlib.Core.Bool.{false}
 use mathlib.Core.List.{List, ◌++◌}
@@ -11,7 +12,6 @@ use Rattle.base_words.specs.Basics.{pick}
 use Rattle.base_words.specs.Splice.{part}
 use Rattle.base_words.specs.Numbers.{bytes_of, value_of, zero_extended}
 use Rattle.base_words.proofs.Numbers.{value-bytes_of}
-use Rattle.base_ieee.specs.declared.Narrowed.{Narrowed}
 use Rattle.base_ieee.specs.Narrowing.{narrow}
 use Rattle.base_ieee.proofs.Laws.{widen-narrow}
 use Rattle.sig_types.specs.declared.Equivalent.{Equivalent}
@@ -28,13 +28,13 @@ use Rattle.call_home_slot.specs.Homes.{homeless, fprs_of, homed_bytes}
 use Rattle.call_home_slot.specs.Helpers.{narrowed_word, home_word, float_home, HomeSized, fills_words, Registered}
 
 -- ---- the memory form
-narrowed-form : (d : ℕ) (q : Narrowed) → narrow d ≡ q → zero_extended 4 (value_of (narrowed_bytes q)) ≡ narrowed_word q
+narrowed-form : (d : ℕ) (q : Option ℕ) → narrow d ≡ q → zero_extended 4 (value_of (narrowed_bytes q)) ≡ narrowed_word q
 unfolding zero_extended value_of
-narrowed-form d (Narrowed.Single x) e =
+narrowed-form d (Some x) e =
     let low = (widen-narrow d x e).0 in
     let v : value_of (bytes_of 4 x) ≡ x % 2 ^ 32 = value-bytes_of 4 x in
     omega (arith, low, v)
-narrowed-form d Narrowed.NotWidened e = refl
+narrowed-form d None e = refl
 
 -- of a single and of a double
 single-form : (f : PowerRules) (n : ℕ) (bs : List ℕ) → n ≡ 4 → zero_extended n (value_of (float_value_as (CallRules.Power f) Equivalent.Single bs)) ≡ home_word Equivalent.Single (value_of bs)

@@ -1,4 +1,5 @@
 -- The home of each argument on PowerPC holds all its words, and lies in the parameter area. Assumes nothing.
+use Rattle.std.proofs.Common.{Option}
 use mathlib.Core.Path.{◌≡◌, refl, sym, subst}
 use mathlib.Core.Bool.{Bool, true, false}
 use mathlib.Core.List.{List, [], ◌∷◌}
@@ -14,7 +15,6 @@ use Rattle.sig_types.specs.declared.ValueType.{ValueType}
 use Rattle.sig_types.specs.Sizes.{size_of, equivalent_of}
 use Rattle.sig_items.specs.declared.Fault.{Fault}
 use Rattle.sig_items.specs.Reading.{Reading, got, no}
-use Rattle.sig_signatures.specs.declared.ResultType.{ResultType}
 use Rattle.sig_signatures.specs.Signature.{Signature}
 use Rattle.sig_signatures.specs.Read.{signature_of}
 use Rattle.sig_signatures.specs.Answer.{result_type, signature_answer}
@@ -90,7 +90,7 @@ rules-homed Convention.Ppc64b v k ts a e h = all-homed 8 (omega arith) (omega ar
 
 -- ---- a whole signature
 
-plan-homed : (n : ℕ) (c : Convention) (v : Bool) (r : ResultType) (ts : List ValueType) → homeless (with_ellipsis v (rules_of c)) ≡ false
+plan-homed : (n : ℕ) (c : Convention) (v : Bool) (r : Option ValueType) (ts : List ValueType) → homeless (with_ellipsis v (rules_of c)) ≡ false
     → All (Homed (with_ellipsis v (rules_of c)) (plan_in n c v r ts).area) (placements c ts (spans_of c (with_ellipsis v (rules_of c)) (start_in c r) ts))
 unfolding plan_in
 plan-homed n c v r ts e = rules-homed c v (start_in c r) ts _ e (rw (last-marked c v (rules_of c) (start_in c r) ts) (area-holds c (last_cursor_in c r ts)))

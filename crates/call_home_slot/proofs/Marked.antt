@@ -13,13 +13,13 @@ use Rattle.plan_places.specs.declared.CallRules.{CallRules}
 use Rattle.plan_places.specs.declared.PowerRules.{PowerRules}
 use Rattle.plan_places.specs.declared.Span.{Span}
 use Rattle.plan_places.specs.Step.{with_ellipsis}
-use Rattle.call_slots.specs.declared.CallAnswer.{CallAnswer}
 use Rattle.call_slots.specs.Forms.{starts_at_head, home_bytes, float_value_as, float_value}
 use Rattle.call_slots.specs.Placements.{Placement}
 use Rattle.call_slots.specs.Refusals.{float_answer}
 use Rattle.call_slots.proofs.Marked.{held-marked}
 use Rattle.call_home_slot.specs.Homes.{homeless, fprs_of, register_answer, homed_bytes}
 use Rattle.call_home_slot.specs.Helpers.{Homed, Registered}
+use Rattle.call_slots.specs.Answer.{CallAnswer, call_done}
 
 pub homeless-marked : (v : Bool) (r : CallRules) → homeless (with_ellipsis v r) ≡ homeless r
 unfolding with_ellipsis
@@ -28,7 +28,7 @@ homeless-marked v CallRules.Z = refl
 
 pub answer-marked : (v : Bool) (r : CallRules) (t : ValueType) (s : Span) (image : List ℕ) → register_answer (with_ellipsis v r) t s image ≡ register_answer r t s image
 unfolding with_ellipsis register_answer
-answer-marked v (CallRules.Power f) t s image = ap (λ (a : CallAnswer). pick (ltb 0 s.floating.count) a CallAnswer.Done) (by (equivalent_of t) (value_of (fprs_of s image)))
+answer-marked v (CallRules.Power f) t s image = ap (λ (a : CallAnswer). pick (ltb 0 s.floating.count) a call_done) (by (equivalent_of t) (value_of (fprs_of s image)))
   where
     by : (e : Equivalent) (x : ℕ) → float_answer (CallRules.Power (record { word = f.word; edition = f.edition; ellipsis = v })) e x ≡ float_answer (CallRules.Power f) e x
     by Equivalent.Single x = refl

@@ -1,8 +1,7 @@
 -- For proofs and helpers alone: no claim cites this file.
 -- What the functions of one home ask and answer. Assumes nothing.
-use Rattle.std.specs.Prelude.{ℕ, ◌+◌, ◌-◌, ◌*◌, ◌≤◌, ◌<◌, ◌≡◌, Bool, true, false, List, ◌++◌, replicate}
+use Rattle.std.specs.Prelude.{Option, Some, None, ℕ, ◌+◌, ◌-◌, ◌*◌, ◌≤◌, ◌<◌, ◌≡◌, Bool, true, false, List, ◌++◌, replicate}
 use Rattle.base_words.specs.Numbers.{bytes_of, value_of}
-use Rattle.base_ieee.specs.declared.Narrowed.{Narrowed}
 use Rattle.base_ieee.specs.Narrowing.{narrow}
 use Rattle.sig_types.specs.declared.Equivalent.{Equivalent}
 use Rattle.sig_types.specs.declared.ValueType.{ValueType}
@@ -17,9 +16,9 @@ use Rattle.call_slots.specs.Helpers.{FloatSized, InImage}
 use Rattle.call_home_slot.specs.Homes.{homeless}
 
 -- the 64 bits in memory of a single or a double whose FPR has the bits x; 0 of a single that is none
-abbrev pub narrowed_word : Narrowed → ℕ
-narrowed_word (Narrowed.Single x) = x
-narrowed_word Narrowed.NotWidened = 0
+abbrev pub narrowed_word : Option ℕ → ℕ
+narrowed_word (Some x) = x
+narrowed_word None = 0
 
 abbrev pub home_word : Equivalent → ℕ → ℕ
 home_word Equivalent.Single x = narrowed_word (narrow x)

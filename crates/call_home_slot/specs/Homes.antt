@@ -9,12 +9,12 @@ use Rattle.sig_types.specs.Sizes.{equivalent_of}
 use Rattle.plan_places.specs.declared.CallRules.{CallRules}
 use Rattle.plan_places.specs.declared.Span.{Span}
 use Rattle.plan_places.specs.Step.{word_of}
-use Rattle.call_slots.specs.declared.CallAnswer.{CallAnswer}
 use Rattle.call_slots.specs.Buffers.{general_at, floating_at}
 use Rattle.call_registers.specs.Registers.{gather}
 use Rattle.call_slots.specs.Forms.{home_bytes, float_value}
 use Rattle.call_slots.specs.Placements.{Placement}
 use Rattle.call_slots.specs.Refusals.{float_answer}
+use Rattle.call_slots.specs.Answer.{CallAnswer, call_done}
 
 -- "asked of Z": only PowerPC has homes for its register arguments
 abbrev pub homeless : CallRules → Bool
@@ -27,7 +27,7 @@ fprs_of s image = part (floating_at s.floating.first) (8 * s.floating.count) ima
 
 -- 14, of one argument: general registers hold anything
 unfoldable pub register_answer : CallRules → ValueType → Span → List ℕ → CallAnswer
-register_answer r t s image = pick (ltb 0 s.floating.count) (float_answer r (equivalent_of t) (value_of (fprs_of s image))) CallAnswer.Done
+register_answer r t s image = pick (ltb 0 s.floating.count) (float_answer r (equivalent_of t) (value_of (fprs_of s image))) call_done
 
 -- ---- the bytes
 

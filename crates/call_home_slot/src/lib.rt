@@ -10,8 +10,7 @@ ghost use Rattle.call_home_slot.specs.Homes.{homeless, register_answer, homed_by
 ghost use Rattle.call_home_slot.specs.Helpers.{home_word, float_home, HomeSized, FprsFit, Registered};
 
 use base_conventions::Convention;
-use base_ieee::Narrowed;
-use call_slots::CallAnswer;
+use call_slots::CallError;
 use plan_places::{CallRules, FPRS_AT, Span};
 use sig_types::{Equivalent, ValueType};
 
@@ -19,14 +18,11 @@ use sig_types::{Equivalent, ValueType};
 pub fn is_homeless(r: CallRules) -> bool
     ensures { result ≡ homeless r }
 {
-    match r {
-        CallRules::Power(_) => false,
-        CallRules::Z => true,
-    }
+    matches!(r, CallRules::Z)
 }
 
 // Whether one argument's FPRs, if it has any, can be homed.
-pub fn register_answer(image: &[u8], r: CallRules, t: ValueType, s: Span) -> CallAnswer
+pub fn register_answer(image: &[u8], r: CallRules, t: ValueType, s: Span) -> Result<(), CallError>
     requires { FprsFit t s (length image.now) }
     ensures { result ≡ register_answer r t s image.now }
 {
@@ -35,7 +31,7 @@ pub fn register_answer(image: &[u8], r: CallRules, t: ValueType, s: Span) -> Cal
         let x = base_words::load(image, FPRS_AT + 8 * (floating.first as usize), 8);
         return call_slots::float_answer(r, sig_types::equivalent_of(t), x);
     }
-    CallAnswer::Done
+    Ok(())
 }
 
 // The 64 bits in memory of a float whose FPR has the bits x.
@@ -43,12 +39,11 @@ fn memory_word(e: Equivalent, x: u64) -> u64
     ensures { result ≡ home_word e x }
 {
     match e {
-        Equivalent::Nothing => x,
+        Equivalent::Nothing | Equivalent::Double => x,
         Equivalent::Single => match base_ieee::narrow(x) {
-            Narrowed::Single(bits) => bits as u64,
-            Narrowed::NotWidened => 0,
+            Some(bits) => u64::from(bits),
+            None => 0,
         },
-        Equivalent::Double => x,
     }
 }
 
@@ -62,10 +57,7 @@ fn home_float(place: &mut [u8], image: &[u8], e: Equivalent, at: usize, n: usize
             let end = at + n;
             call_registers::put_padded(place, &image[at..end], room - n);
         }
-        Equivalent::Single => {
-            base_words::put_number(place, room, memory_word(e, base_words::load(image, at, 8)));
-        }
-        Equivalent::Double => {
+        Equivalent::Single | Equivalent::Double => {
             base_words::put_number(place, room, memory_word(e, base_words::load(image, at, 8)));
         }
     }

@@ -1,4 +1,5 @@
 -- What is put in words is found there again. Assumes nothing.
+use Rattle.sig_types.specs.Codes.{integer_number, float_number}
 use Prim.Native.Nat.{ℕ, ◌+◌, ◌-◌, ◌*◌, ◌/◌, ◌%◌, ◌≤◌, ◌<◌}
 use mathlib.Core.Path.{◌≡◌, refl, sym, ap, ◌∙◌}
 use mathlib.Core.Bool.{Bool, true, false}
@@ -14,7 +15,6 @@ use Rattle.sig_types.specs.declared.Shape.{Shape}
 use Rattle.sig_types.specs.declared.ValueType.{ValueType}
 use Rattle.sig_types.specs.Sizes.{Sized}
 use Rattle.plan_places.specs.declared.RegisterRange.{RegisterRange}
-use Rattle.sig_items.specs.Encode.{integer_number, float_number}
 use Rattle.call_kept.specs.Helpers.{kind_from, format_from, equivalent_code, equivalent_from, Codable, type_code, type_from, range_code, range_from, flag_from}
 
 kind-back : (k : IntegerKind) → kind_from (integer_number k) ≡ k

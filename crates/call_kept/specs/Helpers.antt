@@ -1,5 +1,6 @@
 -- For proofs and helpers alone: no claim cites this file.
 -- The type and the span of an argument as words, and the arguments that words hold: no number here is seen from outside. Assumes nothing.
+use Rattle.sig_types.specs.Codes.{integer_number, float_number}
 use Rattle.std.specs.Prelude.{ℕ, zero, suc, ◌+◌, ◌-◌, ◌*◌, ◌/◌, ◌%◌, ◌≤◌, ◌<◌, Bool, true, false, List, [], ◌∷◌, eqb, ltb, length, get_or}
 use Rattle.base_words.specs.Basics.{pick, All, flag}
 use Rattle.base_conventions.specs.declared.Convention.{Convention}
@@ -9,7 +10,6 @@ use Rattle.sig_types.specs.declared.Equivalent.{Equivalent}
 use Rattle.sig_types.specs.declared.Shape.{Shape}
 use Rattle.sig_types.specs.declared.ValueType.{ValueType}
 use Rattle.sig_types.specs.Sizes.{size_of, max_size}
-use Rattle.sig_items.specs.Encode.{integer_number, float_number}
 use Rattle.plan_places.specs.declared.RegisterRange.{RegisterRange}
 use Rattle.plan_places.specs.declared.ByteRange.{ByteRange}
 use Rattle.plan_places.specs.declared.Span.{Span}

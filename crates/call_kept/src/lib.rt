@@ -4,30 +4,16 @@
 
 ghost use Rattle.std.specs.Prelude.{◌≡◌, ◌+◌, ◌*◌, ◌≤◌, length, get_or};
 ghost use Rattle.base_words.specs.Splice.{overlay, splice};
-ghost use Rattle.sig_items.specs.Encode.{integer_number, float_number};
-ghost use Rattle.call_kept.specs.Helpers.{row_length, Codable, kind_from, format_from, equivalent_code, equivalent_from, type_code, type_from, range_code, range_from, flag_from, row_of, span_from};
+ghost use Rattle.call_kept.specs.Helpers.{row_length, Codable, kind_from, format_from, equivalent_code, equivalent_from, type_code, type_from, range_code, range_from, row_of, span_from};
 
 use plan_places::{ByteRange, RegisterRange, Span};
 use sig_types::{Equivalent, FloatFormat, IntegerKind, Shape, ValueType};
 
+// The numbers of equivalents, types and ranges are this crate's own, of types of other crates, which can't have a `From` here; and what was kept is
+// found again without a refusal, so that no `TryFrom` reads it.
+
 // The words of a row.
 pub const ROW: usize = 10;
-
-fn kind_code(k: IntegerKind) -> u16
-    ensures { result ≡ integer_number k }
-{
-    match k {
-        IntegerKind::I8 => 0,
-        IntegerKind::U8 => 1,
-        IntegerKind::I16 => 2,
-        IntegerKind::U16 => 3,
-        IntegerKind::I32 => 4,
-        IntegerKind::U32 => 5,
-        IntegerKind::I64 => 6,
-        IntegerKind::U64 => 7,
-        IntegerKind::Pointer => 8,
-    }
-}
 
 // Numbers to names and back are looked up, not jumped to: which type comes next can't be foreseen.
 fn kind_from(x: u16) -> IntegerKind
@@ -43,16 +29,6 @@ fn kind_from(x: u16) -> IntegerKind
         6 => IntegerKind::I64,
         7 => IntegerKind::U64,
         _ => IntegerKind::Pointer,
-    }
-}
-
-fn format_code(f: FloatFormat) -> u16
-    ensures { result ≡ float_number f }
-{
-    match f {
-        FloatFormat::Single => 0,
-        FloatFormat::Double => 1,
-        FloatFormat::LongDouble => 2,
     }
 }
 
@@ -92,11 +68,10 @@ fn type_code(t: ValueType) -> u16
     ensures { result ≡ type_code t }
 {
     match t {
-        ValueType::Integer(k) => kind_code(k),
-        ValueType::Float(f) => 16 + format_code(f),
+        ValueType::Integer(k) => u16::from(u8::from(k)),
+        ValueType::Float(f) => 16 + u16::from(u8::from(f)),
         ValueType::Struct(s) => {
-            let e = s.equivalent;
-            128 * s.size + (4 * (s.align as u16) + equivalent_code(e))
+            128 * s.size + (4 * (s.align as u16) + equivalent_code(s.equivalent))
         }
     }
 }
@@ -104,18 +79,15 @@ fn type_code(t: ValueType) -> u16
 fn type_from(x: u16) -> ValueType
     ensures { result ≡ type_from x }
 {
-    if x < 16 {
-        return ValueType::Integer(kind_from(x));
+    match x {
+        0..16 => ValueType::Integer(kind_from(x)),
+        16..32 => ValueType::Float(format_from(x - 16)),
+        _ => ValueType::Struct(Shape {
+            size: x / 128,
+            align: (x / 4 % 32) as u8,
+            equivalent: equivalent_from(x % 4),
+        }),
     }
-    if x < 32 {
-        return ValueType::Float(format_from(x - 16));
-    }
-    let align = (x / 4) % 32;
-    ValueType::Struct(Shape {
-        size: x / 128,
-        align: align as u8,
-        equivalent: equivalent_from(x % 4),
-    })
 }
 
 fn range_code(r: RegisterRange) -> u16
@@ -127,21 +99,10 @@ fn range_code(r: RegisterRange) -> u16
 fn range_from(x: u16) -> RegisterRange
     ensures { result ≡ range_from x }
 {
-    let first = x / 256;
-    let count = x % 256;
     RegisterRange {
-        first: first as u8,
-        count: count as u8,
+        first: (x / 256) as u8,
+        count: (x % 256) as u8,
     }
-}
-
-fn flag_from(x: u16) -> bool
-    ensures { result ≡ flag_from x }
-{
-    if x == 0 {
-        return false;
-    }
-    true
 }
 
 // A row, at the head of `kept`.
@@ -149,22 +110,16 @@ fn put_row(kept: &mut [u16], t: ValueType, s: Span)
     requires { (row_length ≤ length kept.old) × Codable t }
     ensures { kept.new ≡ overlay kept.old (row_of t s) }
 {
-    let general = s.general;
-    let floating = s.floating;
-    let home = s.home;
-    let memory = s.memory;
-    let copy = s.copy;
-    let indirect = s.indirect;
     kept[0] = type_code(t);
-    kept[1] = range_code(general);
-    kept[2] = range_code(floating);
-    kept[3] = home.start;
-    kept[4] = home.length;
-    kept[5] = memory.start;
-    kept[6] = memory.length;
-    kept[7] = copy.start;
-    kept[8] = copy.length;
-    kept[9] = base_words::flag(indirect) as u16;
+    kept[1] = range_code(s.general);
+    kept[2] = range_code(s.floating);
+    kept[3] = s.home.start;
+    kept[4] = s.home.length;
+    kept[5] = s.memory.start;
+    kept[6] = s.memory.length;
+    kept[7] = s.copy.start;
+    kept[8] = s.copy.length;
+    kept[9] = u16::from(s.indirect);
 }
 
 // The row of argument i among those that are kept.
@@ -190,12 +145,9 @@ pub fn span_at(kept: &[u16], i: usize) -> Span
     ensures { result ≡ span_from kept.now (row_length * i) }
 {
     let at = ROW * i;
-    let general = range_from(kept[at + 1]);
-    let floating = range_from(kept[at + 2]);
-    let indirect = flag_from(kept[at + 9]);
     Span {
-        general,
-        floating,
+        general: range_from(kept[at + 1]),
+        floating: range_from(kept[at + 2]),
         home: ByteRange {
             start: kept[at + 3],
             length: kept[at + 4],
@@ -208,6 +160,6 @@ pub fn span_at(kept: &[u16], i: usize) -> Span
             start: kept[at + 7],
             length: kept[at + 8],
         },
-        indirect,
+        indirect: kept[at + 9] != 0,
     }
 }

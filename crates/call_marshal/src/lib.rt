@@ -86,12 +86,7 @@ fn put_float(place: &mut [u8], r: CallRules, e: Equivalent, v: &[u8])
     ensures { place.new ≡ overlay place.old (float_form r e v.now) }
 {
     match e {
-        Equivalent::Nothing => {
-            base_words::put(place, v);
-        }
-        Equivalent::Double => {
-            base_words::put(place, v);
-        }
+        Equivalent::Nothing | Equivalent::Double => base_words::put(place, v),
         Equivalent::Single => {
             base_words::put_number(
                 place,

@@ -10,12 +10,10 @@ use Rattle.base_words.specs.Splice.{overlay}
 use Rattle.base_words.proofs.Splices.{overlay-nothing}
 use Rattle.base_words.proofs.Each.{each-with}
 use Rattle.base_conventions.specs.declared.Convention.{Convention}
-use Rattle.sig_signatures.specs.declared.Outcome.{Outcome}
 use Rattle.plan_plans.specs.declared.Plan.{Plan}
 use Rattle.plan_plans.specs.declared.Measured.{Measured}
 use Rattle.plan_plans.specs.Plan.{plan_answer}
 use Rattle.plan_plans.specs.Call.{called, outcome_for}
-use Rattle.call_slots.specs.declared.CallAnswer.{CallAnswer}
 use Rattle.sig_items.specs.declared.Fault.{Fault}
 use Rattle.sig_items.specs.Reading.{Reading, no}
 use Rattle.sig_signatures.specs.Signature.{Signature}
@@ -24,7 +22,7 @@ use Rattle.call_slots.specs.Buffers.{Buffers}
 use Rattle.plan_places.specs.declared.CallRules.{CallRules}
 use Rattle.call_slots.specs.Placements.{Placement, values_at}
 use Rattle.call_slots.specs.Helpers.{Held, Fits, sizes_of}
-use Rattle.call_slots.specs.Refusals.{first_of, after_reading, or_else, first_of_all, is_refused, is_done}
+use Rattle.call_slots.specs.Refusals.{first_of, after_reading, or_else, first_of_all}
 use Rattle.call_slots.specs.Arguments.{arguments_of, plan_for, rules_for, sizes_for}
 use Rattle.call_slots.proofs.Answered.{carried}
 use Rattle.call_kept.specs.Helpers.{kept_all, KeptEach}
@@ -36,6 +34,8 @@ use Rattle.call_read.specs.declared.ReadLengths.{ReadLengths}
 use Rattle.call_read.specs.Read.{arguments_answer, read_tests, read_answer, read_values}
 use Rattle.call_read.specs.Helpers.{lengths_answer}
 use Rattle.call_read.proofs.Arguments.{or-done-right}
+use Rattle.std.proofs.Common.{Ok, Err, is_ok, is_err}
+use Rattle.call_slots.specs.Answer.{CallAnswer, call_done, call_unread}
 
 -- ---- what no test refuses
 pub record Lent (have : ReadLengths) (p : Plan) : Type 0 where
@@ -43,7 +43,7 @@ pub record Lent (have : ReadLengths) (p : Plan) : Type 0 where
   pub values : have.values ≡ p.values
   pub area : p.area ≤ have.area
 
-pub tests-passed : (have : ReadLengths) (p : Plan) → first_of (read_tests have p.values p.area) ≡ CallAnswer.Done → Lent have p
+pub tests-passed : (have : ReadLengths) (p : Plan) → first_of (read_tests have p.values p.area) ≡ call_done → Lent have p
 unfolding read_tests
 tests-passed have p e =
     let a = first_done _ _ e in
@@ -57,7 +57,7 @@ tests-passed have p e =
 
 -- the same of sizes m that were measured
 pub tests-lent : (s : List ℕ) (have : ReadLengths) (m : Measured) → m ≡ sizes_for s
-    → first_of (read_tests have m.values m.area) ≡ CallAnswer.Done → Lent have (plan_for s)
+    → first_of (read_tests have m.values m.area) ≡ call_done → Lent have (plan_for s)
 tests-lent s have m p e = tests-passed have (plan_for s) (rw p at e)
 
 -- each argument is then one that the first pass can look at, by the signature's rules r
@@ -83,35 +83,35 @@ all-sizes s c l n kept = ap sizes_of kept.same ∙ (carried s).total
 
 -- ---- the answer
 
-pub answer-unread : (s : List ℕ) (have : ReadLengths) (base : ℕ) (b : Buffers) (f : Fault) → signature_of s ≡ no f → CallAnswer.Unread f ≡ read_answer s have base b
+pub answer-unread : (s : List ℕ) (have : ReadLengths) (base : ℕ) (b : Buffers) (f : Fault) → signature_of s ≡ no f → call_unread f ≡ read_answer s have base b
 unfolding read_answer called plan_answer
-answer-unread s have base b f q = let o : outcome_for s ≡ Outcome.Refused f = ap (λ (x : Reading Signature). (plan_answer (called x)).outcome) q in rw o
+answer-unread s have base b f q = let o : outcome_for s ≡ Err f = ap (λ (x : Reading Signature). (plan_answer (called x)).outcome) q in rw o
 
 module _ (s : List ℕ) (have : ReadLengths) (base : ℕ) (b : Buffers) (m : Measured) (p : m ≡ sizes_for s) where
-  pub answer-refused : (f : Fault) → m.outcome ≡ Outcome.Refused f → CallAnswer.Unread f ≡ read_answer s have base b
+  pub answer-refused : (f : Fault) → m.outcome ≡ Err f → call_unread f ≡ read_answer s have base b
   unfolding read_answer
   answer-refused f e = rw (rw p at e)
 
   -- of a call that is accepted, by its rules and its arguments
-  module _ (n : ℕ) (e : m.outcome ≡ Outcome.Accepted n) (r : CallRules) (same : r ≡ rules_for s) (ps : List Placement) (all : ps ≡ arguments_of s) where
+  module _ (n : ℕ) (e : m.outcome ≡ Ok n) (r : CallRules) (same : r ≡ rules_for s) (ps : List Placement) (all : ps ≡ arguments_of s) where
     -- of the lengths l and the arguments a
     whole : (l a : CallAnswer) → l ≡ first_of (read_tests have m.values m.area) → a ≡ arguments_answer r base ps b → or_else l a ≡ read_answer s have base b
     unfolding read_answer
     whole l a x y = rw (rw p at e, ← same, ← all) (ap₂ or_else (rw p at x) y)
 
-    pub answer-lengths : (l : CallAnswer) → l ≡ first_of (read_tests have m.values m.area) → is_refused l ≡ true → l ≡ read_answer s have base b
+    pub answer-lengths : (l : CallAnswer) → l ≡ first_of (read_tests have m.values m.area) → is_err l ≡ true → l ≡ read_answer s have base b
     answer-lengths l x t = sym (or-refused l _ t) ∙ whole l (arguments_answer r base ps b) x refl
 
-    pub answer-arguments : (l a : CallAnswer) → l ≡ first_of (read_tests have m.values m.area) → is_refused l ≡ false → a ≡ arguments_answer r base ps b
+    pub answer-arguments : (l a : CallAnswer) → l ≡ first_of (read_tests have m.values m.area) → is_err l ≡ false → a ≡ arguments_answer r base ps b
         → a ≡ read_answer s have base b
     answer-arguments l a x t y = ap (λ (z : CallAnswer). or_else z a) (sym (not-refused l t)) ∙ whole l a x y
 
 -- of a call without arguments
 module _ (s : List ℕ) (have : ReadLengths) (m : Measured) (p : m ≡ sizes_for s) where
-  pub lengths-refused : (f : Fault) → m.outcome ≡ Outcome.Refused f → CallAnswer.Unread f ≡ lengths_answer s have
+  pub lengths-refused : (f : Fault) → m.outcome ≡ Err f → call_unread f ≡ lengths_answer s have
   lengths-refused f e = rw (rw p at e)
 
-  pub lengths-tested : (n : ℕ) → m.outcome ≡ Outcome.Accepted n → (l : CallAnswer) → l ≡ first_of (read_tests have m.values m.area) → l ≡ lengths_answer s have
+  pub lengths-tested : (n : ℕ) → m.outcome ≡ Ok n → (l : CallAnswer) → l ≡ first_of (read_tests have m.values m.area) → l ≡ lengths_answer s have
   lengths-tested n e l x = rw (rw p at e) (rw p at x)
 
 module _ (s : List ℕ) (none : arguments_of s ≡ []) (base : ℕ) (b : Buffers) where
@@ -121,7 +121,7 @@ module _ (s : List ℕ) (none : arguments_of s ≡ []) (base : ℕ) (b : Buffers
 
   pub values-none : (a : CallAnswer) (values : List ℕ) → values ≡ read_values s base a b values
   unfolding read_values values_at
-  values-none a values = rw none (go (is_done a))
+  values-none a values = rw none (go (is_ok a))
     where
       go : (d : Bool) → values ≡ pick d (overlay values []) values
       go true = overlay-nothing values
@@ -129,13 +129,12 @@ module _ (s : List ℕ) (none : arguments_of s ≡ []) (base : ℕ) (b : Buffers
 
 -- ---- the value buffer
 
-pub values-kept : (s : List ℕ) (base : ℕ) (a : CallAnswer) (b : Buffers) (values : List ℕ) → is_refused a ≡ true → values ≡ read_values s base a b values
+pub values-kept : (s : List ℕ) (base : ℕ) (a : CallAnswer) (b : Buffers) (values : List ℕ) → is_err a ≡ true → values ≡ read_values s base a b values
 unfolding read_values
-values-kept s base CallAnswer.Done b values e = let z : ◌≡◌ {A = ℕ} 0 1 = cc in absurd (omega arith)
-values-kept s base (CallAnswer.Unread f) b values e = refl
-values-kept s base (CallAnswer.Refused reason) b values e = refl
+values-kept s base (Ok tt) b values e = let z : ◌≡◌ {A = ℕ} 0 1 = cc in absurd (omega arith)
+values-kept s base (Err x) b values e = refl
 
 pub values-taken : (s : List ℕ) (base : ℕ) (b : Buffers) (values last : List ℕ) (r : CallRules) (ps : List Placement) → r ≡ rules_for s → ps ≡ arguments_of s
-    → last ≡ overlay values (values_at r base ps b) → last ≡ read_values s base CallAnswer.Done b values
+    → last ≡ overlay values (values_at r base ps b) → last ≡ read_values s base call_done b values
 unfolding read_values
 values-taken s base b values last r ps same all e = rw (← same, ← all) e

@@ -1,6 +1,6 @@
 -- Reading: its answer, and what the value buffer holds afterwards. Document 01, "When the bridge says no" and "What stands in a slot".
 -- The values themselves are `values_at`, of the crate call_slots. Assumes nothing.
-use Rattle.std.specs.Prelude.{ℕ, ◌+◌, ◌-◌, ◌*◌, Bool, true, false, List, [], ◌∷◌, eqb, ltb, leb, length, take}
+use Rattle.std.specs.Prelude.{ℕ, ◌+◌, ◌-◌, ◌*◌, Bool, true, false, List, [], ◌∷◌, eqb, ltb, leb, length, take, is_ok}
 use Rattle.base_words.specs.Basics.{pick}
 use Rattle.base_words.specs.Splice.{overlay, part}
 use Rattle.base_words.specs.Numbers.{value_of}
@@ -8,16 +8,16 @@ use Rattle.sig_types.specs.Sizes.{equivalent_of}
 use Rattle.plan_places.specs.declared.CallRules.{CallRules}
 use Rattle.plan_places.specs.Step.{word_of}
 use Rattle.call_slots.specs.declared.CallRefusal.{CallRefusal}
-use Rattle.call_slots.specs.declared.CallAnswer.{CallAnswer}
 use Rattle.plan_places.specs.Spots.{general, image_bytes}
 use Rattle.call_registers.specs.Registers.{gather}
 use Rattle.call_slots.specs.Buffers.{Buffers, bytes_at}
 use Rattle.call_slots.specs.Forms.{own_start, float_value}
 use Rattle.call_slots.specs.Placements.{Placement, fpr_bytes_at, address_at, values_at}
-use Rattle.call_slots.specs.Refusals.{Test, test, differ, first_of, after_reading, or_else, first_of_all, is_done, float_answer}
+use Rattle.call_slots.specs.Refusals.{Test, test, differ, first_of, after_reading, or_else, first_of_all, float_answer}
 use Rattle.plan_plans.specs.Call.{outcome_for}
 use Rattle.call_slots.specs.Arguments.{arguments_of, plan_for, rules_for}
 use Rattle.call_read.specs.declared.ReadLengths.{ReadLengths}
+use Rattle.call_slots.specs.Answer.{CallAnswer, call_done, call_refused}
 
 -- ---- one argument
 -- n bytes at an address lie wholly in a copy buffer of c bytes at its base, in unbounded integers
@@ -26,12 +26,12 @@ in_copies address base n c = pick (leb base address) (leb (address - base + n) c
 
 -- 13: "a by-pointer argument not wholly inside the copy buffer"
 abbrev pub copy_answer : Bool → CallAnswer
-copy_answer true = CallAnswer.Done
-copy_answer false = CallAnswer.Refused CallRefusal.OutsideCopies
+copy_answer true = call_done
+copy_answer false = call_refused CallRefusal.OutsideCopies
 
 abbrev pub words_answer : CallRules → ℕ → Placement → Buffers → CallAnswer
 words_answer r base p b =
-    pick p.span.indirect (copy_answer (in_copies (address_at (word_of r) p.span b) base p.size (length b.copies))) CallAnswer.Done
+    pick p.span.indirect (copy_answer (in_copies (address_at (word_of r) p.span b) base p.size (length b.copies))) call_done
 
 -- the bytes of one list are those of another
 unfoldable pub same_bytes : List ℕ → List ℕ → Bool
@@ -52,8 +52,8 @@ agrees r p b = same_bytes (own_held r p b) (take (length (own_held r p b)) (floa
 
 -- 26, 02, No. 5: "when the GPRs of a float argument hold other value bytes than its FPR"
 abbrev pub agree_answer : Bool → CallAnswer
-agree_answer true = CallAnswer.Done
-agree_answer false = CallAnswer.Refused CallRefusal.FloatsDiffer
+agree_answer true = call_done
+agree_answer false = call_refused CallRefusal.FloatsDiffer
 
 -- "Reading refuses with 26 .., right after 14 at each argument"
 unfoldable pub argument_answer : CallRules → ℕ → Placement → Buffers → CallAnswer
@@ -83,7 +83,7 @@ read_answer s have base b =
 
 -- "Every refusal leaves all buffers .. untouched"
 unfoldable pub read_values : List ℕ → ℕ → CallAnswer → Buffers → List ℕ → List ℕ
-read_values s base answer b values = pick (is_done answer) (overlay values (values_at (rules_for s) base (arguments_of s) b)) values
+read_values s base answer b values = pick (is_ok answer) (overlay values (values_at (rules_for s) base (arguments_of s) b)) values
 
 abbrev pub read_lengths : List ℕ → List ℕ → List ℕ → ReadLengths
 read_lengths values image area = record { values = length values; image = length image; area = length area }

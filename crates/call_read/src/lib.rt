@@ -15,9 +15,9 @@ ghost use Rattle.call_read.specs.Helpers.{Compared, asks as asks_of, lengths_ans
 
 use base_conventions::Convention;
 use call_kept::ROW;
-use call_slots::{CallAnswer, CallRefusal};
+use call_slots::{CallError, CallRefusal};
 use plan_places::{CallRules, FPRS_AT, IMAGE_BYTES, Span};
-use sig_signatures::{FEW_ARGUMENTS, FEW_BYTES, HeadRead, MAX_ARGUMENTS, Outcome, ResultType};
+use sig_signatures::{FEW_ARGUMENTS, FEW_BYTES, Head, MAX_ARGUMENTS};
 use sig_types::ValueType;
 
 // The lengths of the lent buffers that are tested.
@@ -41,13 +41,14 @@ fn in_copies(address: u64, base: u64, n: usize, length: usize) -> bool
     address - base <= (length - n) as u64
 }
 
-fn copy_answer(inside: bool) -> CallAnswer
+fn copy_answer(inside: bool) -> Result<(), CallError>
     ensures { result ≡ copy_answer inside }
 {
     if inside {
-        return CallAnswer::Done;
+        Ok(())
+    } else {
+        Err(CallError::Refused(CallRefusal::OutsideCopies))
     }
-    CallAnswer::Refused(CallRefusal::OutsideCopies)
 }
 
 // Whether the first n bytes of a and of b are the same.
@@ -55,12 +56,10 @@ fn same_bytes(a: &[u8], b: &[u8], n: usize) -> bool
     requires { (n ≤ length a.now) × (n ≤ length b.now) }
     ensures { result ≡ same_bytes (take n a.now) (take n b.now) }
 {
-    let mut i: usize = 0;
-    while i < n {
+    for i in 0..n {
         if a[i] != b[i] {
             return false;
         }
-        i = i + 1;
     }
     true
 }
@@ -77,7 +76,7 @@ fn floats_agree(image: &[u8], r: CallRules, t: ValueType, n: usize, s: Span) -> 
     let count = general.count as usize;
     let held = word * count;
     let lo = call_slots::own_start(r, t, n, held + memory.length as usize);
-    let m = base_words::smaller(n, held - lo);
+    let m = n.min(held - lo);
     let mut own = [0u8; 16];
     call_registers::take_registers(&mut own, image, word, general.first as usize, count, lo, m);
     let mut value = [0u8; 16];
@@ -93,13 +92,14 @@ fn floats_agree(image: &[u8], r: CallRules, t: ValueType, n: usize, s: Span) -> 
     same_bytes(&own, &value, m)
 }
 
-fn agree_answer(same: bool) -> CallAnswer
+fn agree_answer(same: bool) -> Result<(), CallError>
     ensures { result ≡ agree_answer same }
 {
     if same {
-        return CallAnswer::Done;
+        Ok(())
+    } else {
+        Err(CallError::Refused(CallRefusal::FloatsDiffer))
     }
-    CallAnswer::Refused(CallRefusal::FloatsDiffer)
 }
 
 // Whether one argument can be read, of a type and its size. Most floats have no general registers, and then 14 is all that is asked.
@@ -112,7 +112,7 @@ pub fn argument_answer(
     n: usize,
     s: Span,
     base: u64,
-) -> CallAnswer
+) -> Result<(), CallError>
     requires { InBuffers r (length image.now) (length area.now) (placement t n s) }
     ensures { result ≡ argument_answer r base (placement t n s) (buffers image.now area.now copies.now) }
 {
@@ -121,12 +121,9 @@ pub fn argument_answer(
     let indirect = s.indirect;
     if 0 < floating.count {
         let x = base_words::load(image, FPRS_AT + 8 * (floating.first as usize), 8);
-        let answer = call_slots::float_answer(r, sig_types::equivalent_of(t), x);
+        call_slots::float_answer(r, sig_types::equivalent_of(t), x)?;
         if general.count == 0 {
-            return answer;
-        }
-        if call_slots::is_refused(answer) {
-            return answer;
+            return Ok(());
         }
         return agree_answer(floats_agree(image, r, t, n, s));
     }
@@ -134,18 +131,14 @@ pub fn argument_answer(
         let address = call_unmarshal::word_at(image, area, s);
         return copy_answer(in_copies(address, base, n, copies.len()));
     }
-    CallAnswer::Done
+    Ok(())
 }
 
 // Whether anything is asked of an argument before it is read. Of most nothing is, and then nobody need know their types.
 fn asks(s: Span) -> bool
     ensures { result ≡ asks_of s }
 {
-    let floating = s.floating;
-    if 0 < floating.count {
-        return true;
-    }
-    s.indirect
+    0 < s.floating.count || s.indirect
 }
 
 // The refusal of the first kept argument, left to right, that can't be read.
@@ -158,40 +151,35 @@ pub fn first_refusal(
     count: usize,
     kept: &[u16],
     base: u64,
-) -> CallAnswer
+) -> Result<(), CallError>
     requires { KeptEach (InBuffers rules (length image.now) (length area.now)) convention kept.now count }
     ensures { result ≡ arguments_answer rules base (kept_all convention kept.now count) (buffers image.now area.now copies.now) }
 {
-    let mut i: usize = 0;
-    while i < count {
+    for i in 0..count {
         let s = call_kept::span_at(kept, i);
         if asks(s) {
             let t = call_kept::type_at(kept, i);
             let n = sig_types::size_of(convention, t);
-            let answer = argument_answer(image, area, copies, rules, t, n, s, base);
-            if call_slots::is_refused(answer) {
-                return answer;
-            }
+            argument_answer(image, area, copies, rules, t, n, s, base)?;
         }
-        i = i + 1;
     }
-    CallAnswer::Done
+    Ok(())
 }
 
 // Whether the buffers have the lengths that a plan asks for.
-fn tested(have: ReadLengths, values: usize, area: usize) -> CallAnswer
+fn tested(have: ReadLengths, values: usize, area: usize) -> Result<(), CallError>
     ensures { result ≡ first_of (read_tests have values area) }
 {
     if have.image != IMAGE_BYTES {
-        return CallAnswer::Refused(CallRefusal::ImageSize);
+        return Err(CallError::Refused(CallRefusal::ImageSize));
     }
     if have.values != values {
-        return CallAnswer::Refused(CallRefusal::ValuesSize);
+        return Err(CallError::Refused(CallRefusal::ValuesSize));
     }
     if have.area < area {
-        return CallAnswer::Refused(CallRefusal::AreaTooShort);
+        return Err(CallError::Refused(CallRefusal::AreaTooShort));
     }
-    CallAnswer::Done
+    Ok(())
 }
 
 // The reading of a call once what stands before its arguments is read: they are kept, so that both passes go over them without the signature.
@@ -202,45 +190,29 @@ fn read_part(
     area: &[u8],
     copies: &[u8],
     base: u64,
-    convention: Convention,
-    returned: ResultType,
-    ellipsis: bool,
-    at: usize,
-    end: usize,
-    earlier: usize,
+    head: Head,
     kept: &mut [u16],
-) -> CallAnswer
-    requires { HeadIs sig.now convention returned ellipsis at end earlier × RoomFor row_length at end (length kept.old) }
+) -> Result<(), CallError>
+    requires { HeadIs sig.now head.convention head.result head.ellipsis head.at head.end head.earlier × RoomFor row_length head.at head.end (length kept.old) }
     ensures value { result ≡ read_answer sig.now (read_lengths values.old image.now area.now) base (buffers image.now area.now copies.now) }
     ensures values_after { values.new ≡ read_values sig.now base result (buffers image.now area.now copies.now) values.old }
 {
-    let k = call_arguments::keep_call(sig, convention, ellipsis, returned, at, end, earlier, kept);
-    let count = k.count;
+    let k = call_arguments::keep_call(sig, head, kept);
     let m = k.sizes;
-    let outcome = m.outcome;
-    match outcome {
-        Outcome::Refused(fault) => CallAnswer::Unread(fault),
-        Outcome::Accepted(_) => {
-            let have = ReadLengths {
-                values: values.len(),
-                image: image.len(),
-                area: area.len(),
-            };
-            let lengths = tested(have, m.values, m.area);
-            if call_slots::is_refused(lengths) {
-                return lengths;
-            }
-            let rules = call_arguments::rules_in(convention, ellipsis);
-            let answer = first_refusal(image, area, copies, rules, convention, count, kept, base);
-            if call_slots::is_refused(answer) {
-                return answer;
-            }
-            call_unmarshal::take_arguments(
-                values, image, area, copies, rules, convention, count, kept, base,
-            );
-            CallAnswer::Done
-        }
-    }
+    m.outcome?;
+    let have = ReadLengths {
+        values: values.len(),
+        image: image.len(),
+        area: area.len(),
+    };
+    tested(have, m.values, m.area)?;
+    let convention = head.convention;
+    let rules = call_arguments::rules_in(convention, head.ellipsis);
+    first_refusal(image, area, copies, rules, convention, k.count, kept, base)?;
+    call_unmarshal::take_arguments(
+        values, image, area, copies, rules, convention, k.count, kept, base,
+    );
+    Ok(())
 }
 
 // The same of a call without arguments: only the lengths are tested.
@@ -249,27 +221,19 @@ fn read_none(
     values: &[u8],
     image: &[u8],
     area: &[u8],
-    convention: Convention,
-    returned: ResultType,
-    end: usize,
-    earlier: usize,
-) -> CallAnswer
-    requires { NoneLeft sig.now convention returned end earlier }
+    head: Head,
+) -> Result<(), CallError>
+    requires { NoneLeft sig.now head.convention head.result head.end head.earlier }
     ensures { result ≡ lengths_answer sig.now (read_lengths values.now image.now area.now) }
 {
-    let m = call_arguments::measure_none(sig, convention, returned, end, earlier);
-    let outcome = m.outcome;
-    match outcome {
-        Outcome::Refused(fault) => CallAnswer::Unread(fault),
-        Outcome::Accepted(_) => {
-            let have = ReadLengths {
-                values: values.len(),
-                image: image.len(),
-                area: area.len(),
-            };
-            tested(have, m.values, m.area)
-        }
-    }
+    let m = call_arguments::measure_none(sig, head);
+    m.outcome?;
+    let have = ReadLengths {
+        values: values.len(),
+        image: image.len(),
+        area: area.len(),
+    };
+    tested(have, m.values, m.area)
 }
 
 // Takes the values of a call's arguments out of the register image, the parameter area and the copies. Takes any bytes as signature,
@@ -281,35 +245,18 @@ pub fn read(
     area: &[u8],
     copies: &[u8],
     base: u64,
-) -> CallAnswer
+) -> Result<(), CallError>
     ensures value { result ≡ read_answer sig.now (read_lengths values.old image.now area.now) base (buffers image.now area.now copies.now) }
     ensures values_after { values.new ≡ read_values sig.now base result (buffers image.now area.now copies.now) values.old }
 {
-    match sig_head::read_head(sig) {
-        HeadRead::Refused(fault) => CallAnswer::Unread(fault),
-        HeadRead::Head {
-            convention,
-            result,
-            ellipsis,
-            at,
-            end,
-            earlier,
-        } => {
-            if at == end {
-                return read_none(sig, values, image, area, convention, result, end, earlier);
-            }
-            if end - at <= FEW_BYTES {
-                let mut few = [0u16; ROW * FEW_ARGUMENTS];
-                return read_part(
-                    sig, values, image, area, copies, base, convention, result, ellipsis, at, end,
-                    earlier, &mut few,
-                );
-            }
-            let mut many = [0u16; ROW * MAX_ARGUMENTS];
-            read_part(
-                sig, values, image, area, copies, base, convention, result, ellipsis, at, end,
-                earlier, &mut many,
-            )
-        }
+    let head = sig_head::read_head(sig)?;
+    if head.at == head.end {
+        return read_none(sig, values, image, area, head);
     }
+    if head.end - head.at <= FEW_BYTES {
+        let mut few = [0u16; ROW * FEW_ARGUMENTS];
+        return read_part(sig, values, image, area, copies, base, head, &mut few);
+    }
+    let mut many = [0u16; ROW * MAX_ARGUMENTS];
+    read_part(sig, values, image, area, copies, base, head, &mut many)
 }

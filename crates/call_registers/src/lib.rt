@@ -34,14 +34,12 @@ fn put_each(s: &mut [u8], word: usize, count: usize, v: &[u8])
     ensures { s.new ≡ overlay s.old (spread word count (v.now ++ replicate (word * count - length v.now) 0)) }
 {
     let n = v.len();
-    let mut i: usize = 0;
     let mut from: usize = 0;
-    while i < count {
+    for i in 0..count {
         let at = 8 * i;
-        let to = base_words::smaller(from + word, n);
+        let to = (from + word).min(n);
         put_register(&mut s[at..], word, &v[from..to]);
         from = to;
-        i = i + 1;
     }
 }
 
@@ -52,9 +50,9 @@ pub fn put_registers(s: &mut [u8], word: usize, count: usize, v: &[u8])
 {
     if word == 8 {
         put_padded(s, v, 8 * count - v.len());
-        return;
+    } else {
+        put_each(s, word, count, v);
     }
-    put_each(s, word, count, v);
 }
 
 // The words of `count` registers: those of a number of `room` bytes, the highest first.
@@ -62,17 +60,15 @@ pub fn put_number_registers(s: &mut [u8], word: usize, count: usize, room: usize
     requires { (1 ≤ word) × (word ≤ 8) × (word * count ≤ room) × (room < word + 8) × (8 * count ≤ length s.old) }
     ensures { s.new ≡ overlay s.old (spread word count (bytes_of room x)) }
 {
-    let mut i: usize = 0;
     let mut rest = room;
-    while i < count {
+    for i in 0..count {
         let at = 8 * i;
-        rest = rest - word;
+        rest -= word;
         base_words::put_number(
             &mut s[at..],
             8,
             base_words::zero_extend(x >> (8 * rest), word),
         );
-        i = i + 1;
     }
 }
 
@@ -102,14 +98,15 @@ fn take_each(
     let mut done: usize = 0;
     let mut register = first;
     let mut passed = lo;
+    // A turn takes what is left of a word: no `for` has such steps.
     while done < n {
-        let m = base_words::smaller(word - passed, n - done);
+        let m = (word - passed).min(n - done);
         let from = 8 * register + above + passed;
         let to = from + m;
         base_words::put(&mut out[done..], &image[from..to]);
-        done = done + m;
+        done += m;
         passed = 0;
-        register = register + 1;
+        register += 1;
     }
 }
 
@@ -128,7 +125,7 @@ pub fn take_registers(
 {
     if word == 8 {
         take_part(out, image, 8 * first + lo, n);
-        return;
+    } else {
+        take_each(out, image, word, first, count, lo, n);
     }
-    take_each(out, image, word, first, count, lo, n);
 }

@@ -21,7 +21,6 @@ use Rattle.plan_places.specs.declared.Cursor.{Cursor}
 use Rattle.plan_places.specs.declared.CallRules.{CallRules}
 use Rattle.plan_places.specs.Step.{word_of}
 use Rattle.plan_places.specs.Spots.{general, floating, area, copies}
-use Rattle.call_slots.specs.declared.CallAnswer.{CallAnswer}
 use Rattle.call_slots.specs.Buffers.{Buffers, Slot, put, put_all, bytes_at}
 use Rattle.call_slots.specs.Forms.{room_of, home_bytes, own_start, float_form, float_bytes, float_value_as, float_value}
 use Rattle.call_slots.specs.Placements.{Placement, standing, copy_bytes, slots_of, words_at, fpr_bytes_at, address_at, words_value, value_at}
@@ -37,6 +36,7 @@ use Rattle.call_read.specs.Read.{in_copies, copy_answer, own_held, agrees, agree
 use Rattle.call_read.proofs.Agree.{same_refl}
 use Rattle.call_roundtrip.proofs.Kept.{Upto, Banked, Later, kept-all}
 use Rattle.call_roundtrip.proofs.Forms.{float_back, own_back, length-home}
+use Rattle.call_slots.specs.Answer.{call_done}
 
 -- what the buffers b hold of the argument p, of value v
 pub record Stands (r : CallRules) (base : ℕ) (p : Placement) (v : List ℕ) (b : Buffers) : Type 0 where
@@ -162,7 +162,7 @@ module _ (r : CallRules) (base : ℕ) (p : Placement) (v : List ℕ) (b : Buffer
     float-stands some = s.floats ∙ take_all (8 * p.span.floating.count) (float_form r (equivalent_of p.ty) v) (omega (arith, run_length some))
 
     pub float_read : 0 < p.span.floating.count
-        → (float_answer r (equivalent_of p.ty) (value_of (fpr_bytes_at p.span c)) ≡ CallAnswer.Done) × (float_value_as r (equivalent_of p.ty) (fpr_bytes_at p.span c) ≡ v)
+        → (float_answer r (equivalent_of p.ty) (value_of (fpr_bytes_at p.span c)) ≡ call_done) × (float_value_as r (equivalent_of p.ty) (fpr_bytes_at p.span c) ≡ v)
     float_read some =
         let back = float_back r (equivalent_of p.ty) p.span.floating.count v (sized some) g.bytes in
         (ap (λ (l : List ℕ). float_answer r (equivalent_of p.ty) (value_of l)) (float-stands some) ∙ back.0, ap (float_value_as r (equivalent_of p.ty)) (float-stands some) ∙ back.1)
@@ -212,20 +212,20 @@ module _ (r : CallRules) (base : ℕ) (p : Placement) (v : List ℕ) (b : Buffer
         let y : p.span.copy.start + p.size ≤ length c.copies = omega (arith, g.room.registers.held.copied q, g.room.copies) in
         simp (le-leb base (base + p.span.copy.start) x, e, le-leb (p.span.copy.start + p.size) (length c.copies) y)
 
-    pub stands-done : argument_answer r base p c ≡ CallAnswer.Done
+    pub stands-done : argument_answer r base p c ≡ call_done
     unfolding argument_answer
     stands-done = go (ltb 0 p.span.floating.count) refl
       where
         words : (i : Bool) → p.span.indirect ≡ i → p.span.floating.count ≤ 0
-            → pick i (copy_answer (in_copies (address_at (word_of r) p.span c) base p.size (length c.copies))) CallAnswer.Done ≡ CallAnswer.Done
+            → pick i (copy_answer (in_copies (address_at (word_of r) p.span c) base p.size (length c.copies))) call_done ≡ call_done
         words true q none =
             ap (λ (x : ℕ). copy_answer (in_copies x base p.size (length c.copies))) (address-back none q) ∙ ap copy_answer (in-copies q)
         words false q none = refl
 
         go : (f : Bool) → ltb 0 p.span.floating.count ≡ f
             → pick f (or_else (float_answer r (equivalent_of p.ty) (value_of (fpr_bytes_at p.span c))) (agree_answer (agrees r p c)))
-            (pick p.span.indirect (copy_answer (in_copies (address_at (word_of r) p.span c) base p.size (length c.copies))) CallAnswer.Done)
-            ≡ CallAnswer.Done
+            (pick p.span.indirect (copy_answer (in_copies (address_at (word_of r) p.span c) base p.size (length c.copies))) call_done)
+            ≡ call_done
         go true q =
             let some : 0 < p.span.floating.count = ltb-true 0 p.span.floating.count q in
             ap₂ or_else (float_read some).0 (ap agree_answer (float-agrees some))

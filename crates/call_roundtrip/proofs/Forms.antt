@@ -1,4 +1,5 @@
 -- A value's own bytes back out of its form. Assumes nothing.
+use Rattle.std.proofs.Common.{Some}
 use mathlib.Core.Path.{◌≡◌, refl, ap, ◌∙◌}
 use mathlib.Core.Bool.{Bool, true, false}
 use mathlib.Core.List.{List, ◌++◌}
@@ -10,26 +11,25 @@ use Rattle.base_words.specs.Basics.{pick}
 use Rattle.base_words.specs.Splice.{part}
 use Rattle.base_words.specs.Numbers.{Bytes, bytes_of, value_of, zero_extended, sign_extended}
 use Rattle.base_words.proofs.Numbers.{length-bytes_of, value-back, bytes_of-value, bytes_of-append, bytes_of-zero_extended, bytes_of-sign_extended, bytes_of-back, value-fits, bytes_of-last}
-use Rattle.base_ieee.specs.declared.Narrowed.{Narrowed}
 use Rattle.base_ieee.specs.Widening.{widen}
 use Rattle.base_ieee.specs.Narrowing.{narrow}
 use Rattle.base_ieee.proofs.Laws.{widen-below, narrow-widen}
 use Rattle.sig_types.specs.declared.Equivalent.{Equivalent}
 use Rattle.sig_types.specs.declared.ValueType.{ValueType}
 use Rattle.plan_places.specs.declared.CallRules.{CallRules}
-use Rattle.call_slots.specs.declared.CallAnswer.{CallAnswer}
 use Rattle.call_slots.specs.Forms.{room_of, is_signed, starts_at_head, extended, home_bytes, own_start, float_form, narrowed_bytes, float_value_as}
 use Rattle.call_slots.specs.Helpers.{FloatSized}
 use Rattle.call_slots.specs.Refusals.{narrowed_answer, float_answer}
+use Rattle.call_slots.specs.Answer.{call_done}
 
 -- ---- in FPRs
 
 pub float_back : (r : CallRules) (e : Equivalent) (m : ℕ) (v : List ℕ) → FloatSized e m (length v) → Bytes v
-    → (float_answer r e (value_of (float_form r e v)) ≡ CallAnswer.Done) × (float_value_as r e (float_form r e v) ≡ v)
+    → (float_answer r e (value_of (float_form r e v)) ≡ call_done) × (float_value_as r e (float_form r e v) ≡ v)
 float_back (CallRules.Power f) Equivalent.Single m v s h =
     let x : ℕ = value_of v in
     let bits : value_of (bytes_of 8 (widen x)) ≡ widen x = value-back 8 (widen x) (widen-below x) in
-    let single : narrow (value_of (bytes_of 8 (widen x))) ≡ Narrowed.Single x = ap narrow bits ∙ narrow-widen x (value-fits 4 v s.1 h) in
+    let single : narrow (value_of (bytes_of 8 (widen x))) ≡ Some x = ap narrow bits ∙ narrow-widen x (value-fits 4 v s.1 h) in
     (ap narrowed_answer single, ap narrowed_bytes single ∙ bytes_of-back 4 v s.1 h)
 float_back CallRules.Z Equivalent.Single m v s h =
     let x : ℕ = value_of v in

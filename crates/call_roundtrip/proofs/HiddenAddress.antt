@@ -1,5 +1,7 @@
 -- The hidden address stands in its register after filling (specs/RoundTrip.antt states it): it is put first, and the arguments' slots lie
 -- after it. Assumes nothing.
+use Rattle.sig_types.specs.declared.ValueType.{ValueType}
+use Rattle.std.proofs.Common.{Option}
 use mathlib.Core.Path.{◌≡◌, refl, sym, ap, subst, ◌∙◌}
 use mathlib.Core.Bool.{true, false}
 use mathlib.Core.List.{List}
@@ -12,7 +14,6 @@ use Rattle.base_words.proofs.Splices.{splice-same}
 use Rattle.base_words.proofs.Numbers.{length-bytes_of}
 use Rattle.base_conventions.specs.declared.Convention.{Convention}
 use Rattle.sig_items.specs.Reading.{Reading, got, no}
-use Rattle.sig_signatures.specs.declared.ResultType.{ResultType}
 use Rattle.sig_signatures.specs.Signature.{Signature}
 use Rattle.sig_signatures.specs.Read.{signature_of}
 use Rattle.sig_signatures.specs.Answer.{signature_answer, result_type}
@@ -30,7 +31,6 @@ use Rattle.plan_places.proofs.Marked.{lawful-marked, named-marked}
 use Rattle.plan_plans.proofs.Theorems.{hidden-address}
 use Rattle.plan_plans.specs.Plan.{start_in, hidden_in, result_places_in, plan_answer, plan_in}
 use Rattle.call_registers.specs.Registers.{spread}
-use Rattle.call_slots.specs.declared.CallAnswer.{CallAnswer}
 use Rattle.call_slots.specs.Buffers.{Buffers, buffers, Slot, put, put_all, bytes_at}
 use Rattle.call_slots.specs.Placements.{slots_of_all, hidden_slots}
 use Rattle.plan_plans.specs.Call.{outcome_for}
@@ -42,6 +42,7 @@ use Rattle.call_fill.proofs.Accepted.{tests-low, low-address}
 use Rattle.call_roundtrip.specs.RoundTrip.{HiddenStands}
 use Rattle.call_roundtrip.proofs.Kept.{kept-all, all-later}
 use Rattle.call_roundtrip.proofs.Theorems.{reading-done, filled-lent}
+use Rattle.call_slots.specs.Answer.{call_done}
 
 -- the first argument register, which is of the image's 32
 address-first : (c : Convention)
@@ -54,7 +55,7 @@ address-first Convention.Aix = (omega arith, omega arith)
 address-first Convention.Ppc64b = (omega arith, omega arith)
 
 -- a hidden address has it, and the arguments have those after it
-register-first : (c : Convention) (r : ResultType) (x : Span) → result_places_in c r ≡ ResultPlaces.Hidden x → (x.general.first < (start_in c r).general) × (x.general.first < 32)
+register-first : (c : Convention) (r : Option ValueType) (x : Span) → result_places_in c r ≡ ResultPlaces.Hidden x → (x.general.first < (start_in c r).general) × (x.general.first < 32)
 register-first c r x e = let h = hidden-address c r x e in rw (h.0, h.1) (address-first c)
 
 -- the arguments' slots leave it
@@ -64,7 +65,7 @@ hidden-kept : (y : Reading Signature) (base : ℕ) (v : List ℕ) (x : Span) (b 
 unfolding plan_answer plan_in
 hidden-kept (got g next n) base v x b e =
     let c : Convention = g.convention in
-    let r : ResultType = result_type c g.result in
+    let r : (Option ValueType) = result_type c g.result in
     let q : CallRules = with_ellipsis g.ellipsis (rules_of c) in
     let f = register-first c r x e in
     rw (arguments-got g next n)
@@ -87,7 +88,7 @@ hidden-stands s values image area copies base hidden x h e =
     let ss : List Slot = slots_of_all (rules_for s) base (arguments_of s) values in
     let size : length image ≡ 512 = (filled-lent s values image area copies base hidden h).image in
     let below = register-below (signature_of s) x e in
-    let low = tests-low _ _ _ _ _ _ (reading-done (outcome_for s) _ h.accepted CallAnswer.Done refl).0 in
+    let low = tests-low _ _ _ _ _ _ (reading-done (outcome_for s) _ h.accepted call_done refl).0 in
     let word : spread w 1 (bytes_of w hidden) ≡ bytes_of 8 hidden =
     low-address w hidden x (word-most (rules_for s) (lawful-marked g.ellipsis (rules_of c) (rules-lawful c))) (subst (λ (q : ResultPlaces). high_address w q hidden ≡ false) e low) in
     rw e

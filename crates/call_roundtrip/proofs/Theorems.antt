@@ -1,5 +1,6 @@
 -- Reading after filling gives the values back (specs/RoundTrip.antt states it). Assumes nothing.
 -- ---- the arguments of a plan, from the cursor k on
+use Rattle.std.proofs.Common.{Ok, Err, Result}
 use mathlib.Core.Path.{◌≡◌, refl, sym, ap, ap₂, ◌∙◌, subst}
 use mathlib.Core.List.{List, [], ◌∷◌, ◌++◌}
 use Prim.Native.Nat.{ℕ, ◌+◌, ◌^◌, ◌≤◌, ◌<◌}
@@ -17,7 +18,6 @@ use Rattle.sig_types.specs.declared.ValueType.{ValueType}
 use Rattle.sig_types.specs.Sizes.{size_of}
 use Rattle.sig_items.specs.declared.Fault.{Fault}
 use Rattle.sig_items.specs.Reading.{Reading, got, no}
-use Rattle.sig_signatures.specs.declared.Outcome.{Outcome}
 use Rattle.sig_signatures.specs.Signature.{Signature}
 use Rattle.sig_signatures.specs.Read.{signature_of}
 use Rattle.sig_signatures.specs.Answer.{result_type, signature_answer}
@@ -31,7 +31,6 @@ use Rattle.plan_places.proofs.Between.{step-between}
 use Rattle.plan_places.proofs.Registers.{step-numbered}
 use Rattle.plan_plans.specs.declared.Plan.{Plan}
 use Rattle.plan_plans.specs.Plan.{spans_of, hidden_in, start_in, plan_answer}
-use Rattle.call_slots.specs.declared.CallAnswer.{CallAnswer}
 use Rattle.call_slots.specs.Buffers.{Buffers, buffers, Slot, put_all}
 use Rattle.call_slots.specs.Placements.{Placement, placement, placements, slots_of, slots_of_all, hidden_slots, values_at}
 use Rattle.call_slots.specs.Helpers.{Held, Fits, sizes_of}
@@ -48,6 +47,7 @@ use Rattle.call_read.specs.Read.{read_lengths, argument_answer, arguments_answer
 use Rattle.call_roundtrip.specs.RoundTrip.{Filled, left_by_fill, ReadBack, ReadAfterFill}
 use Rattle.call_roundtrip.proofs.Kept.{all-later}
 use Rattle.call_roundtrip.proofs.Arguments.{Stands, Given, stands-put, stands-done, stands-value, Behind, stands-kept, AllPut, given-same, EachValue}
+use Rattle.call_slots.specs.Answer.{CallAnswer, call_done}
 
 -- the buffers have room for the arguments ps of a copies' end at m
 record Roomy (r : CallRules) (base : ℕ) (ps : List Placement) (a m : ℕ) (v : List ℕ) (b : Buffers) : Type 0 where
@@ -121,26 +121,26 @@ all-put c r base a m k (t ∷ ts) v b named h =
 
 -- every argument can be read, and the values are those that were put
 pub put_back : (r : CallRules) (base : ℕ) (ps : List Placement) (v : List ℕ) (b : Buffers) → AllPut r base ps v b → length v ≡ sizes_of ps
-    → (arguments_answer r base ps b ≡ CallAnswer.Done) × (values_at r base ps b ≡ v)
+    → (arguments_answer r base ps b ≡ call_done) × (values_at r base ps b ≡ v)
 unfolding EachValue arguments_answer first_of_all values_at sizes_of
 put_back r base [] [] b h e = (refl, refl)
 put_back r base [] (x ∷ v) b h e = absurd (omega arith)
 put_back r base (p ∷ ps) v b h e =
     let x : List ℕ = take p.size v in
     let rest = put_back r base ps (drop p.size v) b h.1 (omega (arith, length-drop p.size v)) in
-    let done : argument_answer r base p b ≡ CallAnswer.Done = stands-done r base p x b h.0.given b h.0.stands refl in
+    let done : argument_answer r base p b ≡ call_done = stands-done r base p x b h.0.given b h.0.stands refl in
     let value = stands-value r base p x b h.0.given b h.0.stands refl in
     (ap₂ or_else done rest.0, ap₂ (λ (i j : List ℕ). i ++ j) value rest.1 ∙ take-append-drop p.size v)
 
 -- ---- a whole signature
 
-pub read-tests : (have : ReadLengths) (values area : ℕ) → have.image ≡ 512 → have.values ≡ values → area ≤ have.area → first_of (read_tests have values area) ≡ CallAnswer.Done
+pub read-tests : (have : ReadLengths) (values area : ℕ) → have.image ≡ 512 → have.values ≡ values → area ≤ have.area → first_of (read_tests have values area) ≡ call_done
 unfolding first_of read_tests
 read-tests have values area i v a = simp (eq-eqb _ _ i, eq-eqb _ _ v, le-ltb _ _ a)
 
-pub reading-done : (o : Outcome) (x : CallAnswer) → after_reading o x ≡ CallAnswer.Done → (y : CallAnswer) → y ≡ CallAnswer.Done → (x ≡ CallAnswer.Done) × (after_reading o y ≡ CallAnswer.Done)
-reading-done (Outcome.Accepted n) x e y q = (e, q)
-reading-done (Outcome.Refused f) x e y q = let z : ◌≡◌ {A = ℕ} 0 1 = cc in absurd (omega arith)
+pub reading-done : (o : Result ℕ Fault) (x : CallAnswer) → after_reading o x ≡ call_done → (y : CallAnswer) → y ≡ call_done → (x ≡ call_done) × (after_reading o y ≡ call_done)
+reading-done (Ok n) x e y q = (e, q)
+reading-done (Err f) x e y q = let z : ◌≡◌ {A = ℕ} 0 1 = cc in absurd (omega arith)
 
 -- a refused signature has no arguments
 none-put : (base : ℕ) (v : List ℕ) (b : Buffers) (f : Fault)
@@ -190,7 +190,7 @@ pub record Left (s values : List ℕ) (base : ℕ) (b : Buffers) : Type 0 where
 pub filled-lent : (s values image area copies : List ℕ) (base hidden : ℕ) → Filled s values image area copies base hidden → Lent (fill_lengths values image area copies) (plan_for s) base
 unfolding fill_answer
 filled-lent s values image area copies base hidden h =
-    tests-passed (fill_lengths values image area copies) (plan_for s) base _ h.low (reading-done (outcome_for s) _ h.accepted CallAnswer.Done refl).0
+    tests-passed (fill_lengths values image area copies) (plan_for s) base _ h.low (reading-done (outcome_for s) _ h.accepted call_done refl).0
 
 pub filled-left : (s values image area copies : List ℕ) (base hidden : ℕ) → Filled s values image area copies base hidden → Left s values base (left_by_fill s values image area copies base hidden)
 unfolding fill_buffers filled_slots
@@ -213,8 +213,8 @@ filled-left s values image area copies base hidden h =
     }
 
 -- an accepted filling's signature is read, and a later answer decides
-pub filled-answer : (s values image area copies : List ℕ) (base hidden : ℕ) → Filled s values image area copies base hidden → (y : CallAnswer) → y ≡ CallAnswer.Done
-    → after_reading (outcome_for s) y ≡ CallAnswer.Done
+pub filled-answer : (s values image area copies : List ℕ) (base hidden : ℕ) → Filled s values image area copies base hidden → (y : CallAnswer) → y ≡ call_done
+    → after_reading (outcome_for s) y ≡ call_done
 unfolding fill_answer
 filled-answer s values image area copies base hidden h y q = (reading-done (outcome_for s) _ h.accepted y q).1
 
@@ -223,14 +223,14 @@ unfolding arguments_of
 values-total s = (carried s).total
 
 -- reading any buffers in which every argument stands, of a call that is accepted
-pub read_left : (s values into : List ℕ) (base : ℕ) (b : Buffers) → ((y : CallAnswer) → y ≡ CallAnswer.Done → after_reading (outcome_for s) y ≡ CallAnswer.Done)
+pub read_left : (s values into : List ℕ) (base : ℕ) (b : Buffers) → ((y : CallAnswer) → y ≡ call_done → after_reading (outcome_for s) y ≡ call_done)
     → Left s values base b → length into ≡ length values → ReadBack s values base b into
 unfolding read_answer read_values
 read_left s values into base b answer l size =
     let p : Plan = plan_for s in
     let total : length values ≡ sizes_of (arguments_of s) = l.total ∙ sym (values-total s) in
     let back = put_back (rules_for s) base (arguments_of s) values b l.all total in
-    let good : first_of (read_tests (read_lengths into b.image b.area) p.values p.area) ≡ CallAnswer.Done =
+    let good : first_of (read_tests (read_lengths into b.image b.area) p.values p.area) ≡ call_done =
     read-tests (read_lengths into b.image b.area) p.values p.area l.image (size ∙ l.total) l.area in
     record {
       accepted = answer _ (ap₂ or_else good back.0);

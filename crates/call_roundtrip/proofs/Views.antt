@@ -1,4 +1,5 @@
 -- After filling, home and each view give the values (specs/Views.antt states it). Assumes nothing.
+use Rattle.std.proofs.Common.{Option, Some, None}
 use mathlib.Core.Path.{◌≡◌, refl, sym, ap, ap₂, ◌∙◌, subst}
 use mathlib.Core.Logic.{inl, inr}
 use mathlib.Core.Bool.{Bool, true, false}
@@ -14,7 +15,6 @@ use Rattle.base_words.specs.Splice.{splice, part}
 use Rattle.base_words.specs.Numbers.{Bytes, value_of}
 use Rattle.base_words.proofs.Splices.{overlay-whole, splice-same, splice-other, length-splice, length_part, part-add, part-part}
 use Rattle.base_words.proofs.Numbers.{bytes-bytes_of, bytes_drop, bytes-part}
-use Rattle.base_ieee.specs.declared.Narrowed.{Narrowed}
 use Rattle.base_ieee.specs.Narrowing.{narrow}
 use Rattle.base_conventions.specs.declared.Convention.{Convention}
 use Rattle.sig_types.specs.declared.Equivalent.{Equivalent}
@@ -22,7 +22,6 @@ use Rattle.sig_types.specs.declared.ValueType.{ValueType}
 use Rattle.sig_types.specs.Sizes.{size_of, equivalent_of}
 use Rattle.sig_items.specs.declared.Fault.{Fault}
 use Rattle.sig_items.specs.Reading.{Reading, got, no}
-use Rattle.sig_signatures.specs.declared.ResultType.{ResultType}
 use Rattle.sig_signatures.specs.Signature.{Signature}
 use Rattle.sig_signatures.specs.Read.{signature_of}
 use Rattle.sig_signatures.specs.Answer.{result_type, signature_answer}
@@ -38,12 +37,11 @@ use Rattle.plan_places.proofs.Marked.{word-marked}
 use Rattle.plan_plans.specs.declared.Plan.{Plan}
 use Rattle.plan_plans.proofs.Theorems.{hidden-address}
 use Rattle.plan_plans.specs.Plan.{spans_of, result_places_in, start_in, plan_in, plan_answer}
-use Rattle.call_slots.specs.declared.CallAnswer.{CallAnswer}
 use Rattle.call_slots.specs.Buffers.{Buffers, buffers, bytes_at}
 use Rattle.call_slots.specs.Forms.{room_of, starts_at_head, home_bytes, own_start, narrowed_bytes, float_value_as, float_value}
 use Rattle.call_slots.specs.Placements.{Placement, placements, words_at, fpr_bytes_at, words_value, value_at, values_at}
 use Rattle.call_slots.specs.Helpers.{InImage, sizes_of}
-use Rattle.call_slots.specs.Refusals.{first_of, or_else, first_of_all, float_answer, after_reading, is_done}
+use Rattle.call_slots.specs.Refusals.{first_of, or_else, first_of_all, float_answer, after_reading}
 use Rattle.plan_plans.specs.Call.{outcome_for}
 use Rattle.call_slots.specs.Arguments.{placements_in, arguments_of, plan_for, rules_in, rules_for}
 use Rattle.call_registers.specs.Registers.{gather}
@@ -73,6 +71,8 @@ use Rattle.call_roundtrip.proofs.Alone.{read-own}
 use Rattle.call_roundtrip.proofs.Forms.{own_back, length-home}
 use Rattle.call_roundtrip.proofs.Theorems.{reading-done as answer-passed, put_back, values-total, Left, filled-left, filled-answer}
 use Rattle.call_roundtrip.proofs.Arguments.{EachValue}
+use Rattle.std.proofs.Common.{Ok, Err, is_ok}
+use Rattle.call_slots.specs.Answer.{CallAnswer, call_done}
 
 -- ---- one argument
 
@@ -304,28 +304,28 @@ starts-any (got g next m) = omega arith
 starts-any (no f) = tt
 
 -- what can be read can be homed
-register-done : (r : CallRules) (base : ℕ) (p : Placement) (b : Buffers) → argument_answer r base p b ≡ CallAnswer.Done → register_answer r p.ty p.span b.image ≡ CallAnswer.Done
+register-done : (r : CallRules) (base : ℕ) (p : Placement) (b : Buffers) → argument_answer r base p b ≡ call_done → register_answer r p.ty p.span b.image ≡ call_done
 unfolding argument_answer register_answer bytes_at
 register-done r base p b = go (words_answer r base p b) (ltb 0 p.span.floating.count)
   where
     go : (x : CallAnswer) (f : Bool)
-        → pick f (or_else (float_answer r (equivalent_of p.ty) (value_of (part (256 + 8 * p.span.floating.first) (8 * p.span.floating.count) b.image))) (agree_answer (agrees r p b))) x ≡ CallAnswer.Done
-        → pick f (float_answer r (equivalent_of p.ty) (value_of (part (256 + 8 * p.span.floating.first) (8 * p.span.floating.count) b.image))) CallAnswer.Done ≡ CallAnswer.Done
+        → pick f (or_else (float_answer r (equivalent_of p.ty) (value_of (part (256 + 8 * p.span.floating.first) (8 * p.span.floating.count) b.image))) (agree_answer (agrees r p b))) x ≡ call_done
+        → pick f (float_answer r (equivalent_of p.ty) (value_of (part (256 + 8 * p.span.floating.first) (8 * p.span.floating.count) b.image))) call_done ≡ call_done
     go x true e = (or-done _ _ e).0
     go x false e = refl
 
-registers-done : (r : CallRules) (base : ℕ) (ps : List Placement) (b : Buffers) → arguments_answer r base ps b ≡ CallAnswer.Done → registers_answer r ps b.image ≡ CallAnswer.Done
+registers-done : (r : CallRules) (base : ℕ) (ps : List Placement) (b : Buffers) → arguments_answer r base ps b ≡ call_done → registers_answer r ps b.image ≡ call_done
 unfolding arguments_answer registers_answer first_of_all
 registers-done r base [] b e = refl
 registers-done r base (p ∷ ps) b e =
     let both = or-done (argument_answer r base p b) (first_of_all (λ (p : Placement). argument_answer r base p b) ps) e in
     ap₂ or_else (register-done r base p b both.0) (registers-done r base ps b both.1)
 
-home-tests : (r : CallRules) (i have area : ℕ) → homeless r ≡ false → i ≡ 512 → area ≤ have → first_of (home_tests r i have area) ≡ CallAnswer.Done
+home-tests : (r : CallRules) (i have area : ℕ) → homeless r ≡ false → i ≡ 512 → area ≤ have → first_of (home_tests r i have area) ≡ call_done
 unfolding first_of home_tests
 home-tests r i have area e x y = simp (e, eq-eqb _ _ x, le-ltb _ _ y)
 
-view-tests : (r : CallRules) (count index have area : ℕ) → homeless r ≡ false → index < count → area ≤ have → first_of (view_tests r count index have area) ≡ CallAnswer.Done
+view-tests : (r : CallRules) (count index have area : ℕ) → homeless r ≡ false → index < count → area ≤ have → first_of (view_tests r count index have area) ≡ call_done
 unfolding first_of view_tests
 view-tests r count index have area e x y = simp (e, lt-leb _ _ x, le-ltb _ _ y)
 
@@ -345,9 +345,9 @@ counted s i l =
     let e = next-argument g p i l c.tables.types c.tables.spans in
     omega (arith, length-drop i (placements_in g p), ap (λ (x : List Placement). length x) e)
 
-view-shows : (s area : List ℕ) (i : ℕ) (v : List ℕ) → view_answer s (length area) i ≡ CallAnswer.Done → own_bytes (rules_for s) (get_or (arguments_of s) i no_argument) area ≡ v → view_of s area i ≡ v
+view-shows : (s area : List ℕ) (i : ℕ) (v : List ℕ) → view_answer s (length area) i ≡ call_done → own_bytes (rules_for s) (get_or (arguments_of s) i no_argument) area ≡ v → view_of s area i ≡ v
 unfolding view_of
-view-shows s area i v done e = ap (λ (a : CallAnswer). pick (is_done a) (own_bytes (rules_for s) (get_or (arguments_of s) i no_argument) area) []) done ∙ e
+view-shows s area i v done e = ap (λ (a : CallAnswer). pick (is_ok a) (own_bytes (rules_for s) (get_or (arguments_of s) i no_argument) area) []) done ∙ e
 
 -- the bytes of a value in an FPR
 abbrev FloatBytes : CallRules → ℕ → Buffers → Placement → Type 0
@@ -379,9 +379,9 @@ bytes-each r base (p ∷ ps) b h bytes =
       bytes-each r base ps b h.1 (subst Bytes (drop_at x rest p.size size) (bytes_drop p.size (x ++ rest) bytes)),
     )
 
-narrowed_bytes_lem : (n : Narrowed) → Bytes (narrowed_bytes n)
-narrowed_bytes_lem (Narrowed.Single x) = bytes-bytes_of 4 x
-narrowed_bytes_lem Narrowed.NotWidened = λ i. omega arith
+narrowed_bytes_lem : (n : Option ℕ) → Bytes (narrowed_bytes n)
+narrowed_bytes_lem (Some x) = bytes-bytes_of 4 x
+narrowed_bytes_lem None = λ i. omega arith
 
 float-bytes : (r : CallRules) (e : Equivalent) (bs : List ℕ) → Bytes bs → Bytes (float_value_as r e bs)
 float-bytes (CallRules.Power f) Equivalent.Single bs h = narrowed_bytes_lem (narrow (value_of bs))
@@ -399,14 +399,14 @@ image-bytes r base (p ∷ ps) b h = (
 
 -- every argument of a reading that nothing refuses can be read
 arguments-readable : (s : List ℕ) (base : ℕ) (b : Buffers) → length b.image ≡ 512 → (plan_for s).area ≤ length b.area
-    → arguments_answer (rules_for s) base (arguments_of s) b ≡ CallAnswer.Done → All (λ (p : Placement). Readable (rules_for s) base p b) (arguments_of s)
+    → arguments_answer (rules_for s) base (arguments_of s) b ≡ call_done → All (λ (p : Placement). Readable (rules_for s) base p b) (arguments_of s)
 arguments-readable s base b image area done =
     all-readable (rules_for s) base b (arguments_of s) (each-ready s (rules_for s) (length b.image) (length b.area) refl image area) done
 
 -- what can be read can be homed, and then each view is the value read
 viewed : (s : List ℕ) (base : ℕ) (b : Buffers) → homeless (rules_for s) ≡ false
-    → ((y : CallAnswer) → y ≡ CallAnswer.Done → after_reading (outcome_for s) y ≡ CallAnswer.Done) → length b.image ≡ 512 → (plan_for s).area ≤ length b.area
-    → arguments_answer (rules_for s) base (arguments_of s) b ≡ CallAnswer.Done
+    → ((y : CallAnswer) → y ≡ call_done → after_reading (outcome_for s) y ≡ call_done) → length b.image ≡ 512 → (plan_for s).area ≤ length b.area
+    → arguments_answer (rules_for s) base (arguments_of s) b ≡ call_done
     → (All (λ (p : Placement). Readable (rules_for s) base p b) (arguments_of s) → All (FloatBytes (rules_for s) base b) (arguments_of s))
     → Viewed s (values_at (rules_for s) base (arguments_of s) b) b
 unfolding home_answer view_answer home_area
@@ -416,7 +416,7 @@ viewed s base b power answer image area done bytes =
     let readable : All (λ (q : Placement). Readable r base q b) (arguments_of s) = arguments-readable s base b image area done in
     let tests = home-tests r (length b.image) (length b.area) p.area power image area in
     let size : length (homed_area s b) ≡ length b.area = length-homed (rules_for s) (arguments_of s) b.image b.area in
-    let answered : (i : ℕ) → i < (signature_answer (signature_of s)).count → view_answer s (length (homed_area s b)) i ≡ CallAnswer.Done =
+    let answered : (i : ℕ) → i < (signature_answer (signature_of s)).count → view_answer s (length (homed_area s b)) i ≡ call_done =
     λ i k. answer _ (view-tests r (signature_answer (signature_of s)).count i (length (homed_area s b)) p.area power k (omega (arith, area, size))) in
     record {
       homed = answer _ (ap₂ or_else tests (registers-done (rules_for s) base (arguments_of s) b done));
@@ -431,7 +431,7 @@ unfolding read_answer read_values
 view-as-read s into base b bytes accepted power =
     let p : Plan = plan_for s in
     let have : ReadLengths = read_lengths into b.image b.area in
-    let passed = (answer-passed (outcome_for s) _ accepted CallAnswer.Done refl).0 in
+    let passed = (answer-passed (outcome_for s) _ accepted call_done refl).0 in
     let both = or-done (first_of (read_tests have p.values p.area)) (arguments_answer (rules_for s) base (arguments_of s) b) passed in
     let lent = tests-passed have p both.0 in
     let back : Viewed s (values_at (rules_for s) base (arguments_of s) b) b =
@@ -461,7 +461,7 @@ address_word Convention.Z q = let z : ◌≡◌ {A = ℕ} 0 1 = cc in absurd (om
 address_word Convention.Aix q = address-power 4 Edition.Earlier (omega arith) (omega arith)
 address_word Convention.Ppc64b q = address-power 8 Edition.Later (omega arith) (omega arith)
 
-hidden-start : (c : Convention) (r : ResultType) (x : Span) → homeless (rules_of c) ≡ false → result_places_in c r ≡ ResultPlaces.Hidden x → word_of (rules_of c) ≤ (start_in c r).stack
+hidden-start : (c : Convention) (r : Option ValueType) (x : Span) → homeless (rules_of c) ≡ false → result_places_in c r ≡ ResultPlaces.Hidden x → word_of (rules_of c) ≤ (start_in c r).stack
 hidden-start c r x q e = rw (hidden-address c r x e).1 (address_word c q)
 
 starts-hidden : (y : Reading Signature) (x : Span) → homeless (rules_in (signature_answer y)) ≡ false → (plan_answer y).result ≡ ResultPlaces.Hidden x
@@ -479,10 +479,9 @@ hidden-stays s image area x e = go (home_answer s image (length area)) refl
     w : ℕ
     w = word_of (rules_for s)
 
-    go : (a : CallAnswer) → home_answer s image (length area) ≡ a → part 0 w (pick (is_done a) (homed (rules_for s) (arguments_of s) image area) area) ≡ part 0 w area
-    go CallAnswer.Done q =
+    go : (a : CallAnswer) → home_answer s image (length area) ≡ a → part 0 w (pick (is_ok a) (homed (rules_for s) (arguments_of s) image area) area) ≡ part 0 w area
+    go (Ok tt) q =
         let tests = (or-done _ _ (reading-done (outcome_for s) _ q)).0 in
         let power = (home-passed _ _ _ _ tests).homes in
         homed-kept (rules_for s) (arguments_of s) w 0 w image area (homes-follow s w power (starts-hidden (signature_of s) x power e)) (omega arith)
-    go (CallAnswer.Unread f) q = refl
-    go (CallAnswer.Refused reason) q = refl
+    go (Err x) q = refl

@@ -5,11 +5,11 @@ use Rattle.std.specs.Prelude.{ℕ, ◌+◌, ◌-◌, ◌≤◌, ◌<◌, ◌≡�
 use Rattle.plan_places.specs.declared.CallRules.{CallRules}
 use Rattle.plan_places.specs.Step.{word_of}
 use Rattle.plan_places.specs.Spots.{Spot, general, floating, area, copies}
-use Rattle.call_slots.specs.declared.CallAnswer.{CallAnswer}
 use Rattle.call_slots.specs.Buffers.{Buffers, Slot, general_at, floating_at, bytes_at}
 use Rattle.call_slots.specs.Placements.{Placement, slots_of, words_at, fpr_bytes_at, address_at, value_at}
 use Rattle.call_slots.specs.Arguments.{arguments_of, rules_for}
 use Rattle.call_fill.specs.Fill.{filled_slots, fill_buffers}
+use Rattle.call_slots.specs.Answer.{call_done}
 
 -- a byte of one of the three buffers
 pub data Byte : Type 0 where
@@ -64,7 +64,7 @@ SlotsApart = (s : List ℕ) (base : ℕ) (values : List ℕ) (i j : ℕ) (x : By
 -- "Filling changes only named slots and copies"
 abbrev pub FillOnly : Type 0
 FillOnly = (s values : List ℕ) (base hidden : ℕ) (b : Buffers) (x : Byte) → (Touches (filled_slots s values base hidden) x → ⊥)
-    → byte_at x (fill_buffers s values base hidden CallAnswer.Done b) ≡ byte_at x b
+    → byte_at x (fill_buffers s values base hidden call_done b) ≡ byte_at x b
 
 -- ---- reading
 

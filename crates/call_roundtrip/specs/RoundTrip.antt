@@ -6,26 +6,26 @@ use Rattle.base_words.specs.Numbers.{Bytes, bytes_of}
 use Rattle.plan_places.specs.declared.Span.{Span}
 use Rattle.plan_places.specs.declared.ResultPlaces.{ResultPlaces}
 use Rattle.plan_places.specs.Spots.{general}
-use Rattle.call_slots.specs.declared.CallAnswer.{CallAnswer}
 use Rattle.call_slots.specs.Buffers.{Buffers, buffers, bytes_at}
 use Rattle.call_slots.specs.Arguments.{plan_for}
 use Rattle.call_fill.specs.Fill.{fill_lengths, fill_answer, fill_buffers}
 use Rattle.call_read.specs.Read.{read_lengths, read_answer, read_values}
+use Rattle.call_slots.specs.Answer.{call_done}
 
 -- an accepted filling: the signature s, the values, the lent buffers, the copy base and the hidden address
 pub record Filled (s values image area copies : List ℕ) (base hidden : ℕ) : Type 0 where
   pub bytes : Bytes values
   pub low : base < 2 ^ 64
-  pub accepted : fill_answer s (fill_lengths values image area copies) base hidden ≡ CallAnswer.Done
+  pub accepted : fill_answer s (fill_lengths values image area copies) base hidden ≡ call_done
 
 -- the buffers that it leaves
 abbrev pub left_by_fill : List ℕ → List ℕ → List ℕ → List ℕ → List ℕ → ℕ → ℕ → Buffers
-left_by_fill s values image area copies base hidden = fill_buffers s values base hidden CallAnswer.Done (buffers image area copies)
+left_by_fill s values image area copies base hidden = fill_buffers s values base hidden call_done (buffers image area copies)
 
 -- reading them into a value buffer `into`
 pub record ReadBack (s values : List ℕ) (base : ℕ) (b : Buffers) (into : List ℕ) : Type 0 where
-  pub accepted : read_answer s (read_lengths into b.image b.area) base b ≡ CallAnswer.Done
-  pub same : read_values s base CallAnswer.Done b into ≡ values
+  pub accepted : read_answer s (read_lengths into b.image b.area) base b ≡ call_done
+  pub same : read_values s base call_done b into ≡ values
 
 -- THE ROUND TRIP: for all inputs that fill accepts, read with the same signature and copy base on what fill left accepts, into a value
 -- buffer of the values' length, and gives the values back

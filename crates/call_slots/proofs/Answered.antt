@@ -1,4 +1,5 @@
 -- Whatever bytes a signature has, its arguments are carried: each is held by its span and lies in its buffers. Assumes nothing.
+use Rattle.std.proofs.Common.{Option}
 use mathlib.Core.Path.{◌≡◌, refl, sym, ap, ◌∙◌, subst}
 use mathlib.Core.Bool.{Bool}
 use mathlib.Core.List.{List, [], ◌++◌}
@@ -11,7 +12,6 @@ use Rattle.sig_types.specs.declared.ValueType.{ValueType}
 use Rattle.sig_types.specs.Trees.{count_of}
 use Rattle.sig_items.specs.Reading.{Reading, got, no}
 use Rattle.sig_signatures.specs.Limits.{max_arguments}
-use Rattle.sig_signatures.specs.declared.ResultType.{ResultType}
 use Rattle.sig_signatures.specs.declared.SignatureRead.{SignatureRead}
 use Rattle.sig_signatures.specs.Signature.{Signature}
 use Rattle.sig_signatures.specs.Read.{signature_of}
@@ -61,7 +61,7 @@ arguments-got g next n =
     ∙ placements-table c r k ts (replicate (max_arguments - length ss) no_span)
 
 -- every slot of the plan's table is there
-planned-room : (n : ℕ) (c : Convention) (v : Bool) (r : ResultType) (ts : List ValueType) (m : ℕ) → length ts ≡ m → m ≤ max_arguments → m ≤ length (plan_in n c v r ts).spans
+planned-room : (n : ℕ) (c : Convention) (v : Bool) (r : Option ValueType) (ts : List ValueType) (m : ℕ) → length ts ≡ m → m ≤ max_arguments → m ≤ length (plan_in n c v r ts).spans
 unfolding plan_in table_of
 planned-room n c v r ts m e h =
     let q : CallRules = with_ellipsis v (rules_of c) in
@@ -69,7 +69,7 @@ planned-room n c v r ts m e h =
     omega (arith, length-spans c q (start_in c r) ts, length-append ss (replicate (max_arguments - length ss) no_span))
 
 -- an ellipsis moves no cursor: the plan's sizes are those without one
-planned-fit : (n : ℕ) (c : Convention) (v : Bool) (r : ResultType) (ts : List ValueType)
+planned-fit : (n : ℕ) (c : Convention) (v : Bool) (r : Option ValueType) (ts : List ValueType)
     → All (Fits (plan_in n c v r ts).area (plan_in n c v r ts).copies) (placements c ts (spans_of c (with_ellipsis v (rules_of c)) (start_in c r) ts))
 unfolding plan_in
 planned-fit n c v r ts =
@@ -77,7 +77,7 @@ planned-fit n c v r ts =
     all_fit c (with_ellipsis v (rules_of c)) (start_in c r) ts _ _ (named-marked v (rules_of c) (start_in c r) (named_start (rules_of c) (hidden_in c r)))
     (rw last (area-holds c (last_cursor_in c r ts))) (rw last (omega arith))
 
-pub planned-values : (n : ℕ) (c : Convention) (v : Bool) (r : ResultType) (ts : List ValueType) → values_of c ts ≡ (plan_in n c v r ts).values
+pub planned-values : (n : ℕ) (c : Convention) (v : Bool) (r : Option ValueType) (ts : List ValueType) → values_of c ts ≡ (plan_in n c v r ts).values
 unfolding plan_in
 planned-values n c v r ts = refl
 
@@ -93,7 +93,7 @@ carried s = go (signature_of s) refl
     go : (x : Reading Signature) → signature_of s ≡ x → Carried (signature_answer x) (plan_answer x)
     go (got g next n) e =
         let c : Convention = g.convention in
-        let r : ResultType = result_type c g.result in
+        let r : (Option ValueType) = result_type c g.result in
         let v : Bool = g.ellipsis in
         let ts : List ValueType = types_of c g.arguments in
         let k : Cursor = start_in c r in

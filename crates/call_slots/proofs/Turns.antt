@@ -19,11 +19,12 @@ use Rattle.sig_signatures.proofs.Types.{types-drop, length_types}
 use Rattle.plan_places.specs.declared.Span.{Span}
 use Rattle.plan_plans.specs.declared.Plan.{Plan}
 use Rattle.plan_plans.specs.Plan.{no_span}
-use Rattle.call_slots.specs.declared.CallAnswer.{CallAnswer}
 use Rattle.call_slots.specs.Placements.{Placement, placement, placements}
-use Rattle.call_slots.specs.Refusals.{or_else, first_of_all, is_refused}
+use Rattle.call_slots.specs.Refusals.{or_else, first_of_all}
 use Rattle.call_slots.specs.Arguments.{placements_in}
 use Rattle.call_slots.proofs.Refusals.{or-refused, not-refused}
+use Rattle.std.proofs.Common.{is_err}
+use Rattle.call_slots.specs.Answer.{CallAnswer, call_done}
 
 drop-placements : (c : Convention) (ts : List ValueType) (ss : List Span) (i : ℕ) → drop i (placements c ts ss) ≡ placements c (drop i ts) (drop i ss)
 unfolding placements
@@ -79,20 +80,20 @@ module _ (f : Placement → CallAnswer) (P : Placement → Type 0) (ps : List Pl
     unfolding All
     checking-ready = let each : P p × All P (drop (suc i) ps) = rw e at c.each in each.0
 
-    pub checking-refused : (a : CallAnswer) → a ≡ f p → is_refused a ≡ true → a ≡ first_of_all f ps
+    pub checking-refused : (a : CallAnswer) → a ≡ f p → is_err a ≡ true → a ≡ first_of_all f ps
     unfolding first_of_all
     checking-refused a q t =
         let rest : or_else (f p) (first_of_all f (drop (suc i) ps)) ≡ first_of_all f ps = rw e at c.rest in
         sym (or-refused a (first_of_all f (drop (suc i) ps)) t) ∙ ap (λ (x : CallAnswer). or_else x (first_of_all f (drop (suc i) ps))) q ∙ rest
 
-    pub checking-more : (a : CallAnswer) → a ≡ f p → is_refused a ≡ false → Checking (i + 1)
+    pub checking-more : (a : CallAnswer) → a ≡ f p → is_err a ≡ false → Checking (i + 1)
     unfolding All first_of_all
     checking-more a q t =
         let each : P p × All P (drop (suc i) ps) = rw e at c.each in
         let rest : or_else (f p) (first_of_all f (drop (suc i) ps)) ≡ first_of_all f ps = rw e at c.rest in
-        let done : f p ≡ CallAnswer.Done = sym q ∙ not-refused a t in
+        let done : f p ≡ call_done = sym q ∙ not-refused a t in
         record { each = rw add-one each.1; rest = rw add-one (rw done at rest) }
 
-  pub checking-end : (i : ℕ) → drop i ps ≡ [] → Checking i → CallAnswer.Done ≡ first_of_all f ps
+  pub checking-end : (i : ℕ) → drop i ps ≡ [] → Checking i → call_done ≡ first_of_all f ps
   unfolding first_of_all
   checking-end i e c = rw e at c.rest

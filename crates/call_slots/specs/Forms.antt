@@ -2,10 +2,9 @@
 -- registers and memory, word after word, and that of a float in FPRs. n is the value's size in bytes, v its bytes.
 -- Assumes nothing.
 -- ---- in general registers and memory
-use Rattle.std.specs.Prelude.{ℕ, ◌+◌, ◌-◌, ◌*◌, ◌^◌, Bool, true, false, List, [], ◌++◌, eqb, leb, take, replicate}
+use Rattle.std.specs.Prelude.{Option, Some, None, ℕ, ◌+◌, ◌-◌, ◌*◌, ◌^◌, Bool, true, false, List, [], ◌++◌, eqb, leb, take, replicate}
 use Rattle.base_words.specs.Basics.{pick}
 use Rattle.base_words.specs.Numbers.{bytes_of, value_of, zero_extended, sign_extended}
-use Rattle.base_ieee.specs.declared.Narrowed.{Narrowed}
 use Rattle.base_ieee.specs.Widening.{widen}
 use Rattle.base_ieee.specs.Narrowing.{narrow}
 use Rattle.sig_types.specs.declared.IntegerKind.{IntegerKind}
@@ -92,9 +91,9 @@ unfoldable pub float_bytes : CallRules → ValueType → List ℕ → List ℕ
 float_bytes r t v = float_form r (equivalent_of t) v
 
 -- the value's own bytes in those of its FPRs: a single's four, of which there are none where the FPR is no widened single (14)
-abbrev pub narrowed_bytes : Narrowed → List ℕ
-narrowed_bytes (Narrowed.Single x) = bytes_of 4 x
-narrowed_bytes Narrowed.NotWidened = []
+abbrev pub narrowed_bytes : Option ℕ → List ℕ
+narrowed_bytes (Some x) = bytes_of 4 x
+narrowed_bytes None = []
 
 abbrev pub single_value : CallRules → List ℕ → List ℕ
 single_value (CallRules.Power f) bs = narrowed_bytes (narrow (value_of bs))

@@ -2,6 +2,7 @@
 pub mod Buffers
 pub mod Forms
 pub mod Placements
+pub mod Answer
 pub mod Refusals
 pub mod Helpers
 pub mod Arguments

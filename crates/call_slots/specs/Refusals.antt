@@ -1,15 +1,15 @@
 -- The refusals after reading. Document 01, "When the bridge says no": their numbers, and the first that holds of several.
 -- Assumes nothing.
-use Rattle.std.specs.Prelude.{ℕ, Bool, true, false, List, [], ◌∷◌, eqb}
+use Rattle.sig_items.specs.declared.Fault.{Fault}
+use Rattle.std.specs.Prelude.{ℕ, Bool, true, false, List, [], ◌∷◌, eqb, Option, Some, None, Ok, Err, Result}
 use Rattle.base_words.specs.Basics.{pick}
-use Rattle.base_ieee.specs.declared.Narrowed.{Narrowed}
 use Rattle.base_ieee.specs.Narrowing.{narrow}
 use Rattle.sig_types.specs.declared.Equivalent.{Equivalent}
 use Rattle.sig_items.specs.Refusals.{refusal_number}
-use Rattle.sig_signatures.specs.declared.Outcome.{Outcome}
 use Rattle.plan_places.specs.declared.CallRules.{CallRules}
 use Rattle.call_slots.specs.declared.CallRefusal.{CallRefusal}
-use Rattle.call_slots.specs.declared.CallAnswer.{CallAnswer}
+use Rattle.call_slots.specs.Answer.{CallAnswer, call_done, call_unread, call_refused}
+use Rattle.call_slots.specs.declared.CallError.{CallError}
 
 abbrev pub call_refusal_number : CallRefusal → ℕ
 -- "value buffer not exactly the arguments' total size"
@@ -31,9 +31,9 @@ call_refusal_number CallRefusal.NoView = 24
 
 -- the number of an answer: 0 where nothing is refused
 abbrev pub call_answer_number : CallAnswer → ℕ
-call_answer_number CallAnswer.Done = 0
-call_answer_number (CallAnswer.Unread f) = refusal_number f.reason
-call_answer_number (CallAnswer.Refused reason) = call_refusal_number reason
+call_answer_number (Ok tt) = 0
+call_answer_number (Err (CallError.Unread f)) = refusal_number f.reason
+call_answer_number (Err (CallError.Refused reason)) = call_refusal_number reason
 
 -- "not exactly", "not 512 bytes": two numbers are not the same
 abbrev pub differ : ℕ → ℕ → Bool
@@ -49,44 +49,33 @@ test b r = record { holds = b; reason = r }
 
 -- the answer of tests in order: the first that holds refuses
 unfoldable pub first_of : List Test → CallAnswer
-first_of [] = CallAnswer.Done
-first_of (t ∷ ts) = pick t.holds (CallAnswer.Refused t.reason) (first_of ts)
+first_of [] = call_done
+first_of (t ∷ ts) = pick t.holds (call_refused t.reason) (first_of ts)
 
 -- a signature's refusal comes before all others, and is handed on whole
-abbrev pub after_reading : Outcome → CallAnswer → CallAnswer
-after_reading (Outcome.Accepted n) a = a
-after_reading (Outcome.Refused f) a = CallAnswer.Unread f
+abbrev pub after_reading : Result ℕ Fault → CallAnswer → CallAnswer
+after_reading (Ok n) a = a
+after_reading (Err f) a = call_unread f
 
 -- of two answers, the first that refuses
 abbrev pub or_else : CallAnswer → CallAnswer → CallAnswer
-or_else CallAnswer.Done a = a
-or_else (CallAnswer.Unread f) a = CallAnswer.Unread f
-or_else (CallAnswer.Refused reason) a = CallAnswer.Refused reason
+or_else (Ok tt) a = a
+or_else (Err e) a = Err e
 
 -- "by argument, left to right": of several, the first that refuses
 unfoldable pub first_of_all : {A : Type 0} → (A → CallAnswer) → List A → CallAnswer
-first_of_all f [] = CallAnswer.Done
+first_of_all f [] = call_done
 first_of_all f (x ∷ xs) = or_else (f x) (first_of_all f xs)
-
-abbrev pub is_done : CallAnswer → Bool
-is_done CallAnswer.Done = true
-is_done (CallAnswer.Unread f) = false
-is_done (CallAnswer.Refused reason) = false
-
-abbrev pub is_refused : CallAnswer → Bool
-is_refused CallAnswer.Done = false
-is_refused (CallAnswer.Unread f) = true
-is_refused (CallAnswer.Refused reason) = true
 
 -- ---- an FPR
 
-abbrev pub narrowed_answer : Narrowed → CallAnswer
-narrowed_answer (Narrowed.Single x) = CallAnswer.Done
-narrowed_answer Narrowed.NotWidened = CallAnswer.Refused CallRefusal.NotWidened
+abbrev pub narrowed_answer : Option ℕ → CallAnswer
+narrowed_answer (Some x) = call_done
+narrowed_answer None = call_refused CallRefusal.NotWidened
 
 -- 14: "a single's PPC64 FPR that is no widened single"; x are the bits of a float's FPRs, which for a single are one FPR's 64
 abbrev pub float_answer : CallRules → Equivalent → ℕ → CallAnswer
 float_answer (CallRules.Power f) Equivalent.Single x = narrowed_answer (narrow x)
-float_answer (CallRules.Power f) Equivalent.Double x = CallAnswer.Done
-float_answer (CallRules.Power f) Equivalent.Nothing x = CallAnswer.Done
-float_answer CallRules.Z e x = CallAnswer.Done
+float_answer (CallRules.Power f) Equivalent.Double x = call_done
+float_answer (CallRules.Power f) Equivalent.Nothing x = call_done
+float_answer CallRules.Z e x = call_done

@@ -3,18 +3,18 @@
 #![tactic(auto)]
 
 ghost use Rattle.std.specs.Prelude.{◌≡◌, ◌^◌, ◌≤◌, ◌<◌, length};
+ghost use Rattle.call_slots.specs.declared.CallError.TheVariants.{Unread, Refused};
 ghost use Rattle.base_words.specs.Numbers.{value_of};
 ghost use Rattle.call_slots.specs.Forms.{signed_kind, is_signed, struct_at_head, head_first, starts_at_head, extended, room_of, own_start, single_word};
 ghost use Rattle.base_ieee.specs.Narrowing.{narrow as narrow_of};
-ghost use Rattle.call_slots.specs.Refusals.{call_refusal_number, is_refused, narrowed_answer, float_answer};
+ghost use Rattle.call_slots.specs.Refusals.{call_refusal_number, narrowed_answer, float_answer};
 
-use base_ieee::Narrowed;
 use plan_places::CallRules;
 use sig_items::Fault;
 use sig_types::{Equivalent, FloatFormat, IntegerKind, ValueType};
 
-// Why a call is refused once its signature is read; `call_refusal_number` gives document 01's number.
-#[derive(Clone, Copy)]
+// Why a call is refused once its signature is read; `u64::from` gives document 01's number.
+#[derive(Clone, Copy, Debug, PartialEq, Eq)]
 pub enum CallRefusal {
     ValuesSize,
     AreaTooShort,
@@ -26,43 +26,53 @@ pub enum CallRefusal {
     NoView,
 }
 
-// The answer of a call: done; or its signature is refused, by the reading's fault; or the call is, at place 0.
-#[derive(Clone, Copy)]
-pub enum CallAnswer {
-    Done,
+impl From<CallRefusal> for u64 {
+    ghost from_gives = { λ r n. n ≡ call_refusal_number r };
+
+    fn from(r: CallRefusal) -> u64 {
+        match r {
+            CallRefusal::ValuesSize => 10,
+            CallRefusal::AreaTooShort => 11,
+            CallRefusal::BadCopies => 12,
+            CallRefusal::OutsideCopies => 13,
+            CallRefusal::NotWidened => 14,
+            CallRefusal::ImageSize => 15,
+            CallRefusal::FloatsDiffer => 26,
+            CallRefusal::NoView => 24,
+        }
+    }
+}
+
+// Why a call is not done: its signature is refused, by the reading's fault; or the call is, at place 0.
+#[derive(Clone, Copy, Debug, PartialEq, Eq)]
+pub enum CallError {
     Unread(Fault),
     Refused(CallRefusal),
 }
 
-pub fn call_refusal_number(r: CallRefusal) -> u64
-    ensures { result ≡ call_refusal_number r }
-{
-    match r {
-        CallRefusal::ValuesSize => 10,
-        CallRefusal::AreaTooShort => 11,
-        CallRefusal::BadCopies => 12,
-        CallRefusal::OutsideCopies => 13,
-        CallRefusal::NotWidened => 14,
-        CallRefusal::ImageSize => 15,
-        CallRefusal::FloatsDiffer => 26,
-        CallRefusal::NoView => 24,
+impl From<Fault> for CallError {
+    ghost from_gives = { λ f e. e ≡ Unread f };
+
+    fn from(fault: Fault) -> CallError {
+        CallError::Unread(fault)
+    }
+}
+
+impl From<CallRefusal> for CallError {
+    ghost from_gives = { λ r e. e ≡ Refused r };
+
+    fn from(r: CallRefusal) -> CallError {
+        CallError::Refused(r)
     }
 }
 
 fn signed_kind(k: IntegerKind) -> bool
     ensures { result ≡ signed_kind k }
 {
-    match k {
-        IntegerKind::I8 => true,
-        IntegerKind::U8 => false,
-        IntegerKind::I16 => true,
-        IntegerKind::U16 => false,
-        IntegerKind::I32 => true,
-        IntegerKind::U32 => false,
-        IntegerKind::I64 => true,
-        IntegerKind::U64 => false,
-        IntegerKind::Pointer => false,
-    }
+    matches!(
+        k,
+        IntegerKind::I8 | IntegerKind::I16 | IntegerKind::I32 | IntegerKind::I64
+    )
 }
 
 fn is_signed(t: ValueType) -> bool
@@ -70,8 +80,7 @@ fn is_signed(t: ValueType) -> bool
 {
     match t {
         ValueType::Integer(k) => signed_kind(k),
-        ValueType::Float(_) => false,
-        ValueType::Struct(_) => false,
+        ValueType::Float(_) | ValueType::Struct(_) => false,
     }
 }
 
@@ -80,10 +89,7 @@ fn is_signed(t: ValueType) -> bool
 fn struct_at_head(word: usize, n: usize) -> bool
     ensures { result ≡ struct_at_head word n }
 {
-    if word == 8 {
-        return 8 <= n;
-    }
-    true
+    word != 8 || 8 <= n
 }
 
 fn head_first(word: usize, t: ValueType) -> bool
@@ -91,11 +97,7 @@ fn head_first(word: usize, t: ValueType) -> bool
 {
     match t {
         ValueType::Integer(_) => false,
-        ValueType::Float(f) => match f {
-            FloatFormat::Single => false,
-            FloatFormat::Double => false,
-            FloatFormat::LongDouble => true,
-        },
+        ValueType::Float(f) => matches!(f, FloatFormat::LongDouble),
         ValueType::Struct(s) => struct_at_head(word, s.size as usize),
     }
 }
@@ -118,9 +120,10 @@ pub fn value_word(t: ValueType, v: &[u8]) -> u64
     let n = v.len();
     let x = base_words::load(v, 0, n);
     if is_signed(t) {
-        return base_words::sign_extend(x, n);
+        base_words::sign_extend(x, n)
+    } else {
+        base_words::zero_extend(x, n)
     }
-    base_words::zero_extend(x, n)
 }
 
 // The 64 bits of an FPR that holds a single, or on Z a struct that is placed as one.
@@ -140,41 +143,24 @@ pub fn own_start(r: CallRules, t: ValueType, n: usize, room: usize) -> usize
     requires { (room ≡ room_of r n) × (n ≤ room) }
     ensures { result ≡ own_start r t n }
 {
-    if starts_at_head(r, t) {
-        return 0;
-    }
-    room - n
+    if starts_at_head(r, t) { 0 } else { room - n }
 }
 
-fn narrowed_answer(x: u64) -> CallAnswer
+fn narrowed_answer(x: u64) -> Result<(), CallError>
     ensures { result ≡ narrowed_answer (narrow_of x) }
 {
     match base_ieee::narrow(x) {
-        Narrowed::Single(_) => CallAnswer::Done,
-        Narrowed::NotWidened => CallAnswer::Refused(CallRefusal::NotWidened),
+        Some(_) => Ok(()),
+        None => Err(CallError::Refused(CallRefusal::NotWidened)),
     }
 }
 
 // Whether an FPR's 64 bits can be read.
-pub fn float_answer(r: CallRules, e: Equivalent, x: u64) -> CallAnswer
+pub fn float_answer(r: CallRules, e: Equivalent, x: u64) -> Result<(), CallError>
     ensures { result ≡ float_answer r e x }
 {
-    match r {
-        CallRules::Power(_) => match e {
-            Equivalent::Nothing => CallAnswer::Done,
-            Equivalent::Single => narrowed_answer(x),
-            Equivalent::Double => CallAnswer::Done,
-        },
-        CallRules::Z => CallAnswer::Done,
-    }
-}
-
-pub fn is_refused(a: CallAnswer) -> bool
-    ensures { result ≡ is_refused a }
-{
-    match a {
-        CallAnswer::Done => false,
-        CallAnswer::Unread(_) => true,
-        CallAnswer::Refused(_) => true,
+    match (r, e) {
+        (CallRules::Power(_), Equivalent::Single) => narrowed_answer(x),
+        _ => Ok(()),
     }
 }

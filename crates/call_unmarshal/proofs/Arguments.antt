@@ -1,4 +1,5 @@
 -- One argument that can be read: its bytes are there, and as many as its size. Assumes nothing.
+use Rattle.std.proofs.Common.{Option, Some, None}
 use mathlib.Core.Path.{◌≡◌, refl, sym, ◌∙◌}
 use mathlib.Core.Bool.{Bool, true, false}
 use mathlib.Core.List.{List, [], ◌∷◌}
@@ -13,7 +14,6 @@ use Rattle.base_words.specs.Splice.{part}
 use Rattle.base_words.specs.Numbers.{value_of}
 use Rattle.base_words.proofs.Splices.{length_part}
 use Rattle.base_words.proofs.Numbers.{length-bytes_of}
-use Rattle.base_ieee.specs.declared.Narrowed.{Narrowed}
 use Rattle.base_ieee.specs.Narrowing.{narrow}
 use Rattle.sig_types.specs.declared.Equivalent.{Equivalent}
 use Rattle.sig_types.specs.Sizes.{equivalent_of}
@@ -22,13 +22,13 @@ use Rattle.plan_places.specs.Step.{word_of}
 use Rattle.plan_places.specs.Spots.{copies}
 use Rattle.call_registers.specs.Registers.{gather}
 use Rattle.call_registers.proofs.Registers.{length-gather}
-use Rattle.call_slots.specs.declared.CallAnswer.{CallAnswer}
 use Rattle.call_slots.specs.Buffers.{Buffers, bytes_at}
 use Rattle.call_slots.specs.Forms.{starts_at_head, own_start, room_of, narrowed_bytes, float_value_as, float_value}
 use Rattle.call_slots.specs.Placements.{Placement, words_at, fpr_bytes_at, address_at, words_value, value_at, values_at}
 use Rattle.call_slots.specs.Helpers.{FloatSized, Held, sizes_of}
 use Rattle.call_slots.specs.Refusals.{narrowed_answer, float_answer}
 use Rattle.call_unmarshal.specs.Helpers.{LiesIn, FprsHold, Readable}
+use Rattle.call_slots.specs.Answer.{call_done}
 
 pub float-room : (e : Equivalent) (m n l : ℕ) → FloatSized e m n → n ≤ l → FprsHold e (8 * m) l
 float-room Equivalent.Single m n l h k = (omega (arith, h.0), omega (arith, h.1))
@@ -79,11 +79,11 @@ module _ (r : CallRules) (base : ℕ) (p : Placement) (b : Buffers) (h : Readabl
   length-fprs = length_part (256 + 8 * p.span.floating.first) (8 * p.span.floating.count) b.image (omega (arith, h.ready))
 
 -- a value in FPRs
-narrowed-length : (q : Narrowed) → narrowed_answer q ≡ CallAnswer.Done → length (narrowed_bytes q) ≡ 4
-narrowed-length (Narrowed.Single x) e = length-bytes_of 4 x
-narrowed-length Narrowed.NotWidened e = let z : ◌≡◌ {A = ℕ} 0 1 = cc in absurd (omega arith)
+narrowed-length : (q : Option ℕ) → narrowed_answer q ≡ call_done → length (narrowed_bytes q) ≡ 4
+narrowed-length (Some x) e = length-bytes_of 4 x
+narrowed-length None e = let z : ◌≡◌ {A = ℕ} 0 1 = cc in absurd (omega arith)
 
-pub float-length : (r : CallRules) (e : Equivalent) (bs : List ℕ) (m n : ℕ) → FloatSized e m n → length bs ≡ 8 * m → float_answer r e (value_of bs) ≡ CallAnswer.Done
+pub float-length : (r : CallRules) (e : Equivalent) (bs : List ℕ) (m n : ℕ) → FloatSized e m n → length bs ≡ 8 * m → float_answer r e (value_of bs) ≡ call_done
     → length (float_value_as r e bs) ≡ n
 float-length (CallRules.Power f) Equivalent.Single bs m n s l d = narrowed-length (narrow (value_of bs)) d ∙ sym s.1
 float-length CallRules.Z Equivalent.Single bs m n s l d = length-take-le 4 bs (omega (arith, s.0)) ∙ sym s.1

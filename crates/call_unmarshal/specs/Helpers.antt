@@ -9,11 +9,11 @@ use Rattle.plan_places.specs.declared.CallRules.{CallRules}
 use Rattle.plan_places.specs.declared.Span.{Span}
 use Rattle.plan_places.specs.Step.{word_of}
 use Rattle.plan_places.specs.Spots.{image_bytes}
-use Rattle.call_slots.specs.declared.CallAnswer.{CallAnswer}
 use Rattle.call_slots.specs.Buffers.{Buffers}
 use Rattle.call_slots.specs.Placements.{Placement, fpr_bytes_at, address_at}
 use Rattle.call_slots.specs.Refusals.{float_answer}
 use Rattle.call_slots.specs.Helpers.{InImage}
+use Rattle.call_slots.specs.Answer.{call_done}
 
 -- m bytes at s lie in an area of a bytes; none may start anywhere: an argument in registers asks nothing of the area
 abbrev pub LiesIn : ℕ → ℕ → ℕ → Type 0
@@ -39,7 +39,7 @@ pub record InBuffers (r : CallRules) (i a : ℕ) (p : Placement) : Type 0 where
 pub record Readable (r : CallRules) (base : ℕ) (p : Placement) (b : Buffers) : Type 0 where
   pub ready : InBuffers r (length b.image) (length b.area) p
   -- 14 is not given
-  pub exact : 0 < p.span.floating.count → float_answer r (equivalent_of p.ty) (value_of (fpr_bytes_at p.span b)) ≡ CallAnswer.Done
+  pub exact : 0 < p.span.floating.count → float_answer r (equivalent_of p.ty) (value_of (fpr_bytes_at p.span b)) ≡ call_done
   -- 13 is not given
   pub inside : p.span.floating.count ≤ 0 → p.span.indirect ≡ true
       → (base ≤ address_at (word_of r) p.span b) × (address_at (word_of r) p.span b - base + p.size ≤ length b.copies)

@@ -12,7 +12,6 @@ ghost use Rattle.call_kept.specs.Helpers.{kept_all, KeptEach};
 ghost use Rattle.call_unmarshal.specs.Helpers.{SpanHolds, FprsHold, Readable};
 
 use base_conventions::Convention;
-use base_ieee::Narrowed;
 use plan_places::{CallRules, FPRS_AT, Span};
 use sig_types::{Equivalent, ValueType};
 
@@ -58,11 +57,8 @@ fn take_narrowed(out: &mut [u8], x: u64)
     requires { 4 ≤ length out.old }
     ensures { out.new ≡ overlay out.old (narrowed_bytes (narrow_of x)) }
 {
-    match base_ieee::narrow(x) {
-        Narrowed::Single(bits) => {
-            base_words::put_number(out, 4, bits as u64);
-        }
-        Narrowed::NotWidened => {}
+    if let Some(bits) = base_ieee::narrow(x) {
+        base_words::put_number(out, 4, u64::from(bits));
     }
 }
 
@@ -148,13 +144,11 @@ pub fn take_arguments(
     ensures { values.new ≡ overlay values.old (values_at rules base (kept_all convention kept.now count) (buffers image.now area.now copies.now)) }
 {
     let mut v: usize = 0;
-    let mut i: usize = 0;
-    while i < count {
+    for i in 0..count {
         let t = call_kept::type_at(kept, i);
         let s = call_kept::span_at(kept, i);
         let n = sig_types::size_of(convention, t);
         take_argument(&mut values[v..], image, area, copies, rules, t, n, s, base);
-        v = v + n;
-        i = i + 1;
+        v += n;
     }
 }

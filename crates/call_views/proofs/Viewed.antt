@@ -1,4 +1,5 @@
 -- An argument that no test of a view refuses lies in its home, and the part that a view shows. Assumes nothing.
+use Rattle.sig_items.specs.declared.Fault.{Fault}
 use mathlib.Core.Path.{◌≡◌, refl, sym, ap, ap₂, ◌∙◌}
 use mathlib.Core.Bool.{true, false}
 use mathlib.Core.List.{List, []}
@@ -9,18 +10,16 @@ use native.Mathlib.Nat.{add-sub_cancel_left}
 use lib.ListN.{length, get_or, take, drop}
 use Rattle.base_words.specs.Basics.{pick, All}
 use Rattle.sig_signatures.specs.Limits.{max_arguments}
-use Rattle.sig_signatures.specs.declared.Outcome.{Outcome}
 use Rattle.sig_signatures.specs.declared.SignatureRead.{SignatureRead}
 use Rattle.sig_signatures.specs.Read.{signature_of}
 use Rattle.sig_signatures.specs.Answer.{signature_answer}
 use Rattle.plan_places.specs.declared.CallRules.{CallRules}
 use Rattle.plan_places.specs.Step.{rules_of}
 use Rattle.plan_plans.specs.declared.Plan.{Plan}
-use Rattle.call_slots.specs.declared.CallAnswer.{CallAnswer}
 use Rattle.call_slots.specs.Forms.{own_start}
 use Rattle.call_slots.specs.Placements.{Placement}
 use Rattle.call_slots.specs.Helpers.{Held}
-use Rattle.call_slots.specs.Refusals.{Test, first_of, after_reading, is_done, is_refused}
+use Rattle.call_slots.specs.Refusals.{Test, first_of, after_reading}
 use Rattle.plan_plans.specs.Call.{outcome_for}
 use Rattle.call_slots.specs.Arguments.{placements_in, arguments_of, plan_for, rules_in, rules_for}
 use Rattle.call_slots.proofs.Answered.{Carried, carried_same}
@@ -33,19 +32,21 @@ use Rattle.call_views.specs.declared.ViewPart.{ViewPart}
 use Rattle.call_home_slot.specs.Homes.{homeless}
 use Rattle.call_home_slot.specs.Helpers.{Homed}
 use Rattle.call_views.specs.View.{view_tests, view_answer, no_argument, own_bytes, own_part, view_part, view_of}
+use Rattle.std.proofs.Common.{Ok, Err, is_ok, is_err, Result}
+use Rattle.call_slots.specs.Answer.{CallAnswer, call_done}
 
 -- ---- what no test refuses
 
-pub reading-done : (o : Outcome) (x : CallAnswer) → after_reading o x ≡ CallAnswer.Done → x ≡ CallAnswer.Done
-reading-done (Outcome.Accepted n) x e = e
-reading-done (Outcome.Refused f) x e = let z : ◌≡◌ {A = ℕ} 0 1 = cc in absurd (omega arith)
+pub reading-done : (o : Result ℕ Fault) (x : CallAnswer) → after_reading o x ≡ call_done → x ≡ call_done
+reading-done (Ok n) x e = e
+reading-done (Err f) x e = let z : ◌≡◌ {A = ℕ} 0 1 = cc in absurd (omega arith)
 
 pub record Viewed (r : CallRules) (count index have area : ℕ) : Type 0 where
   pub homes : homeless r ≡ false
   pub there : index < count
   pub room : area ≤ have
 
-pub view-passed : (r : CallRules) (count index have area : ℕ) → first_of (view_tests r count index have area) ≡ CallAnswer.Done → Viewed r count index have area
+pub view-passed : (r : CallRules) (count index have area : ℕ) → first_of (view_tests r count index have area) ≡ call_done → Viewed r count index have area
 unfolding view_tests
 view-passed (CallRules.Power f) count index have area e =
     let a = first_done _ _ e in
@@ -56,7 +57,7 @@ view-passed CallRules.Z count index have area e = let a = first_done _ _ e in le
 -- ---- the argument that is viewed
 
 pub record Hand (s : List ℕ) (have index : ℕ) (g : SignatureRead) (p : Plan) : Type 0 where
-  pub done : view_answer s have index ≡ CallAnswer.Done
+  pub done : view_answer s have index ≡ call_done
   pub small : index < max_arguments
   pub room : p.area ≤ have
   pub held : Held (rules_of g.convention) (argument_at g p index)
@@ -77,7 +78,7 @@ answer-same s have index g p a read plan e =
     ∙ ap₂ (λ (g : SignatureRead) (p : Plan). after_reading (outcome_for s) (first_of (view_tests (rules_in g) g.count index have p.area))) read plan
 
 pub hand : (s : List ℕ) (have index : ℕ) (g : SignatureRead) (p : Plan) (a : CallAnswer) → g ≡ signature_answer (signature_of s) → p ≡ plan_for s
-    → a ≡ after_reading (outcome_for s) (first_of (view_tests (rules_of g.convention) g.count index have p.area)) → a ≡ CallAnswer.Done → Hand s have index g p
+    → a ≡ after_reading (outcome_for s) (first_of (view_tests (rules_of g.convention) g.count index have p.area)) → a ≡ call_done → Hand s have index g p
 unfolding arguments_of
 hand s have index g p a read plan e d =
     let v = view-passed (rules_of g.convention) g.count index have p.area (reading-done (outcome_for s) _ (sym e ∙ d)) in
@@ -97,12 +98,11 @@ hand s have index g p a read plan e d =
 
 -- ---- the part that is viewed
 
-refused-part : (a : CallAnswer) (r : CallRules) (p : Placement) → is_refused a ≡ true → ◌≡◌ {A = ViewPart} (record { answer = a; start = 0; length = 0 }) (own_part a r p)
-refused-part CallAnswer.Done r p q = let z : ◌≡◌ {A = ℕ} 0 1 = cc in absurd (omega arith)
-refused-part (CallAnswer.Unread f) r p q = refl
-refused-part (CallAnswer.Refused reason) r p q = refl
+refused-part : (a : CallAnswer) (r : CallRules) (p : Placement) → is_err a ≡ true → ◌≡◌ {A = ViewPart} (record { answer = a; start = 0; length = 0 }) (own_part a r p)
+refused-part (Ok tt) r p q = let z : ◌≡◌ {A = ℕ} 0 1 = cc in absurd (omega arith)
+refused-part (Err x) r p q = refl
 
-pub part-refused : (s : List ℕ) (have index : ℕ) (a : CallAnswer) → a ≡ view_answer s have index → is_refused a ≡ true
+pub part-refused : (s : List ℕ) (have index : ℕ) (a : CallAnswer) → a ≡ view_answer s have index → is_err a ≡ true
     → ◌≡◌ {A = ViewPart} (record { answer = a; start = 0; length = 0 }) (view_part s have index)
 unfolding view_part
 part-refused s have index a e q = rw (← e) (refused-part a (rules_for s) (get_or (arguments_of s) index no_argument) q)
@@ -113,9 +113,9 @@ pub part-shown : (s : List ℕ) (have index : ℕ) (g : SignatureRead) (p : Plan
     → ◌≡◌ {A = ViewPart} (record { answer = a; start = (argument_at g p index).span.home.start + own; length = n }) (view_part s have index)
 unfolding view_part
 part-shown s have index g p a own n h read e o z =
-    let done : a ≡ CallAnswer.Done = e ∙ h.done in
+    let done : a ≡ call_done = e ∙ h.done in
     let same = own-marked g.ellipsis (rules_of g.convention) (argument_at g p index).ty (argument_at g p index).size in
-    rw (← e, done, o, z, h.at, ← same) (ap (λ (x : SignatureRead). own_part CallAnswer.Done (rules_in x) (argument_at g p index)) read)
+    rw (← e, done, o, z, h.at, ← same) (ap (λ (x : SignatureRead). own_part call_done (rules_in x) (argument_at g p index)) read)
 
 pub part-answer : (s : List ℕ) (have index : ℕ) → (view_part s have index).answer ≡ view_answer s have index
 unfolding view_part
@@ -134,13 +134,12 @@ part-within s have index = go (view_answer s have index) refl
   where
     go : (a : CallAnswer) → a ≡ view_answer s have index
         → (own_part a (rules_for s) (get_or (arguments_of s) index no_argument)).start + (own_part a (rules_for s) (get_or (arguments_of s) index no_argument)).length ≤ have
-    go CallAnswer.Done e =
+    go (Ok tt) e =
         let g : SignatureRead = signature_answer (signature_of s) in
-        let h = hand s have index g (plan_for s) CallAnswer.Done refl refl (e ∙ view_answer-is s have index) refl in
+        let h = hand s have index g (plan_for s) call_done refl refl (e ∙ view_answer-is s have index) refl in
         let same = own-marked g.ellipsis (rules_of g.convention) (argument_at g (plan_for s) index).ty (argument_at g (plan_for s) index).size in
         rw h.at (omega (arith, own-homed (rules_of g.convention) _ _ h.held h.homed, same, h.room))
-    go (CallAnswer.Unread f) e = omega arith
-    go (CallAnswer.Refused reason) e = omega arith
+    go (Err x) e = omega arith
 
 -- and is the view
 pub part-view : (s area : List ℕ) (index : ℕ) (v : ViewPart) → v ≡ view_part s (length area) index
@@ -152,7 +151,6 @@ part-view s area index v e =
     ∙ go (view_answer s (length area) index)
   where
     go : (a : CallAnswer) → take (own_part a (rules_for s) (get_or (arguments_of s) index no_argument)).length (drop (own_part a (rules_for s) (get_or (arguments_of s) index no_argument)).start area)
-        ≡ pick (is_done a) (own_bytes (rules_for s) (get_or (arguments_of s) index no_argument) area) []
-    go CallAnswer.Done = refl
-    go (CallAnswer.Unread f) = refl
-    go (CallAnswer.Refused reason) = refl
+        ≡ pick (is_ok a) (own_bytes (rules_for s) (get_or (arguments_of s) index no_argument) area) []
+    go (Ok tt) = refl
+    go (Err x) = refl

@@ -5,48 +5,52 @@ ghost use Rattle.std.specs.Prelude.{◌≡◌, length};
 ghost use Rattle.call_slots.specs.Refusals.{first_of, after_reading};
 ghost use Rattle.call_views.specs.View.{view_tests, view_answer, view_part, view_of};
 
-use call_slots::{CallAnswer, CallRefusal};
+use call_slots::{CallError, CallRefusal};
 use plan_places::CallRules;
-use sig_signatures::Outcome;
+use sig_items::Fault;
 
 // The part of an area that is an argument's own bytes: none where the answer refuses.
 #[derive(Clone, Copy)]
 pub struct ViewPart {
-    pub answer: CallAnswer,
+    pub answer: Result<(), CallError>,
     pub start: usize,
     pub length: usize,
 }
 
 // Whether there is a view of argument `index` of `count` in an area of `have` bytes.
-fn view_tested(r: CallRules, count: usize, index: usize, have: usize, area: usize) -> CallAnswer
-    ensures { result ≡ first_of (view_tests r count index have area) }
-{
-    if call_home_slot::is_homeless(r) {
-        return CallAnswer::Refused(CallRefusal::NoView);
-    }
-    if count <= index {
-        return CallAnswer::Refused(CallRefusal::NoView);
-    }
-    if have < area {
-        return CallAnswer::Refused(CallRefusal::AreaTooShort);
-    }
-    CallAnswer::Done
-}
-
-fn view_answer(
-    outcome: Outcome,
+fn view_tested(
     r: CallRules,
     count: usize,
     index: usize,
     have: usize,
     area: usize,
-) -> CallAnswer
+) -> Result<(), CallError>
+    ensures { result ≡ first_of (view_tests r count index have area) }
+{
+    if call_home_slot::is_homeless(r) {
+        return Err(CallError::Refused(CallRefusal::NoView));
+    }
+    if count <= index {
+        return Err(CallError::Refused(CallRefusal::NoView));
+    }
+    if have < area {
+        return Err(CallError::Refused(CallRefusal::AreaTooShort));
+    }
+    Ok(())
+}
+
+fn view_answer(
+    outcome: Result<usize, Fault>,
+    r: CallRules,
+    count: usize,
+    index: usize,
+    have: usize,
+    area: usize,
+) -> Result<(), CallError>
     ensures { result ≡ after_reading outcome (first_of (view_tests r count index have area)) }
 {
-    match outcome {
-        Outcome::Refused(fault) => CallAnswer::Unread(fault),
-        Outcome::Accepted(_) => view_tested(r, count, index, have, area),
-    }
+    outcome?;
+    view_tested(r, count, index, have, area)
 }
 
 // Where the own bytes of argument `index` lie in a homed area of `have` bytes.
@@ -59,7 +63,7 @@ pub fn view_part(sig: &[u8], index: usize, have: usize) -> ViewPart
     let convention = g.convention;
     let rules = both_abi::call_rules_of(convention);
     let answer = view_answer(outcome, rules, g.count, index, have, p.area);
-    if call_slots::is_refused(answer) {
+    if answer.is_err() {
         return ViewPart {
             answer,
             start: 0,
@@ -81,7 +85,7 @@ pub fn view_part(sig: &[u8], index: usize, have: usize) -> ViewPart
 }
 
 // The answer on the same inputs as `view`'s.
-pub fn check_view(area: &[u8], sig: &[u8], index: usize) -> CallAnswer
+pub fn check_view(area: &[u8], sig: &[u8], index: usize) -> Result<(), CallError>
     ensures { result ≡ view_answer sig.now (length area.now) index }
 {
     let p = view_part(sig, index, area.len());

@@ -1,4 +1,5 @@
 -- Worked examples of the walker, for a reader to compare with document 02, No. 5. Each computes. Assumes nothing.
+use Rattle.sig_types.specs.Codes.{integer_code}
 use mathlib.Core.Path.{◌≡◌, refl}
 use mathlib.Core.Bool.{Bool, true, false}
 use mathlib.Core.List.{List, [], ◌∷◌}
@@ -14,7 +15,7 @@ use Rattle.sig_types.specs.declared.ValueType.{ValueType}
 use Rattle.sig_types.specs.Trees.{Tree, integer, float, struct, none, ◌▸◌, type_of}
 use Rattle.sig_items.specs.declared.Refusal.{Refusal}
 use Rattle.sig_items.specs.Reading.{fault, got, no}
-use Rattle.sig_items.specs.Read.{body_at, integer_code, integer_at, item_by, item_at}
+use Rattle.sig_items.specs.Read.{body_at, integer_at, item_by, item_at}
 use Rattle.plan_places.specs.declared.Bank.{Bank}
 use Rattle.plan_places.specs.declared.Place.{Place}
 use Rattle.plan_places.specs.Power.{words, fprs, share_of, power_share, unclear}
@@ -24,7 +25,6 @@ use Rattle.plan_places.specs.Places.{up_from, register_place, registers_of, memo
 use Rattle.plan_plans.specs.Plan.{start_in}
 use Rattle.sig_signatures.specs.Signature.{Signature, value}
 use Rattle.sig_signatures.specs.Read.{convention_at, signature_of}
-use Rattle.call_slots.specs.declared.CallAnswer.{CallAnswer}
 use Rattle.call_slots.specs.declared.CallRefusal.{CallRefusal}
 use Rattle.call_slots.specs.Buffers.{Buffers, buffers, bytes_at}
 use Rattle.call_slots.specs.Forms.{starts_at_head, own_start}
@@ -39,6 +39,7 @@ use Rattle.call_walker.specs.declared.WalkerRead.{WalkerRead}
 use Rattle.call_walker.specs.Walker.{counters, cursor_at, counters_of, walker, walker_of, power_possible, z_possible, possible, in_range, lost}
 use Rattle.call_walker.specs.Step.{type_item, asked, passes, step_tests, step_answer, step_on}
 use Rattle.call_walker.specs.Words.{walker_in, walker_words, walker_start_words, walker_outcome, step_for, walker_step}
+use Rattle.call_slots.specs.Answer.{call_done, call_unread, call_refused}
 
 abbrev int : ValueType
 int = ValueType.Integer IntegerKind.I32
@@ -218,7 +219,7 @@ no-type = refl
 -- ---- the order of refusals, and 11
 
 -- 29 before 15, 10 and 11: a long double of the later edition where only f13 is left
-pub unclear-first : step_answer (walker Convention.Ppc64b true false (k 12 12)) quad 0 0 (buffers [] [] []) ≡ CallAnswer.Unread (fault Refusal.UnclearPlace 0 0)
+pub unclear-first : step_answer (walker Convention.Ppc64b true false (k 12 12)) quad 0 0 (buffers [] [] []) ≡ call_unread (fault Refusal.UnclearPlace 0 0)
 unfolding step_answer cursor_at unclear_for unclear fprs
 unclear-first = refl
 
@@ -245,12 +246,12 @@ lost-stays = refl
 
 -- an integer in r4 of an image of zeros, with no area at all: its value, and the walker one word further
 pub walk-once : walker_step (1 ∷ 1 ∷ 0 ∷ 1 ∷ 0 ∷ 0 ∷ []) bytes 0 (buffers image [] []) (7 ∷ 7 ∷ 7 ∷ 7 ∷ [])
-    ≡ walker_outcome (WalkerAnswer.Called CallAnswer.Done) (1 ∷ 1 ∷ 0 ∷ 2 ∷ 0 ∷ 0 ∷ []) (0 ∷ 0 ∷ 0 ∷ 0 ∷ [])
+    ≡ walker_outcome (WalkerAnswer.Called call_done) (1 ∷ 1 ∷ 0 ∷ 2 ∷ 0 ∷ 0 ∷ []) (0 ∷ 0 ∷ 0 ∷ 0 ∷ [])
 unfolding walker_step walker_in convention_code lost in_range possible power_possible type_item item_at item_by body_at integer_at integer_code type_of step_for step_answer cursor_at unclear_for unclear fprs step_tests first_of passes asked span_of with_ellipsis power_share share_of words argument_answer value_at words_value words_at bytes_at gather own_start starts_at_head overlay step_on counters_of next_of walker_words
 walk-once = refl
 
 -- the same past r10: 11
 pub walk-past : walker_step (1 ∷ 1 ∷ 0 ∷ 8 ∷ 0 ∷ 0 ∷ []) bytes 0 (buffers image (replicate 71 0) []) (7 ∷ 7 ∷ 7 ∷ 7 ∷ [])
-    ≡ walker_outcome (WalkerAnswer.Called (CallAnswer.Refused CallRefusal.AreaTooShort)) (1 ∷ 1 ∷ 0 ∷ 8 ∷ 0 ∷ 0 ∷ []) (7 ∷ 7 ∷ 7 ∷ 7 ∷ [])
+    ≡ walker_outcome (WalkerAnswer.Called (call_refused CallRefusal.AreaTooShort)) (1 ∷ 1 ∷ 0 ∷ 8 ∷ 0 ∷ 0 ∷ []) (7 ∷ 7 ∷ 7 ∷ 7 ∷ [])
 unfolding walker_step walker_in convention_code lost in_range possible power_possible type_item item_at item_by body_at integer_at integer_code type_of step_for step_answer cursor_at unclear_for unclear fprs step_tests first_of passes asked span_of with_ellipsis power_share share_of words
 walk-past = refl

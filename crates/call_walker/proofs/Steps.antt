@@ -22,7 +22,6 @@ use Rattle.plan_places.specs.Helpers.{LawfulCalls}
 use Rattle.plan_places.proofs.Between.{step-between}
 use Rattle.plan_places.proofs.Marked.{next-marked}
 use Rattle.plan_places.proofs.Bounds.{unclear-floating}
-use Rattle.call_slots.specs.declared.CallAnswer.{CallAnswer}
 use Rattle.call_slots.specs.Buffers.{Buffers}
 use Rattle.call_slots.specs.Placements.{placement, value_at}
 use Rattle.call_slots.specs.Refusals.{first_of}
@@ -33,6 +32,7 @@ use Rattle.call_walker.specs.Step.{rules_by, asked, passes, step_tests, step_ans
 use Rattle.call_walker.specs.Helpers.{local}
 use Rattle.call_walker.proofs.Shifted.{span-shifts, value-shift, answer-shift}
 use Rattle.call_walker.proofs.Reached.{Reached, reached-cursor}
+use Rattle.call_slots.specs.Answer.{call_done}
 
 -- ---- a walker where a call's cursor is: copies have no counter, and nobody looks at them
 
@@ -90,8 +90,8 @@ module _ (c : Convention) (v hidden : Bool) (d : Cursor) (h : Reached (rules_of 
   at-cursor = reached-cursor (rules_of c) hidden d l h
 
   pub step-done : unclear_for (rules_of c) d t ≡ false → length b.image ≡ 512 → (next_of (rules_of c) d t (size_of c t)).stack ≤ length b.area
-      → argument_answer (rules_by here) base (placement t (size_of c t) (span_of (rules_by here) d t (size_of c t))) b ≡ CallAnswer.Done
-      → (m : ℕ) → m ≡ size_of c t → step_answer here t m base b ≡ CallAnswer.Done
+      → argument_answer (rules_by here) base (placement t (size_of c t) (span_of (rules_by here) d t (size_of c t))) b ≡ call_done
+      → (m : ℕ) → m ≡ size_of c t → step_answer here t m base b ≡ call_done
   unfolding step_answer step_tests first_of asked
   step-done clear image area done m size =
       let inside = inside-passes (rules_by here) (uncopied d) t (size_of c t) (length b.area) (omega (arith, next-stack (rules_by here) d t (size_of c t), ap (λ (k : Cursor). k.stack) (next-marked v (rules_of c) d t (size_of c t)))) in

@@ -1,4 +1,5 @@
 -- A walk over the declared types of a signature gives what plain reading gives, where that accepts (specs/Walks.antt). Assumes nothing.
+use Rattle.std.proofs.Common.{Option}
 use mathlib.Core.Path.{◌≡◌, refl, sym, ap, ap₂, ◌∙◌, subst}
 use mathlib.Core.Bool.{Bool, true, false}
 use mathlib.Core.List.{List, [], ◌∷◌, ◌++◌, map}
@@ -21,7 +22,6 @@ use Rattle.sig_types.proofs.Sized.{within-sized}
 use Rattle.sig_items.specs.Reading.{Reading, got, no}
 use Rattle.sig_items.specs.Encode.{encode_tree, encode_trees}
 use Rattle.sig_items.proofs.Trees.{length_more}
-use Rattle.sig_signatures.specs.declared.ResultType.{ResultType}
 use Rattle.sig_signatures.specs.Signature.{Signature}
 use Rattle.sig_signatures.specs.Limits.{max_length}
 use Rattle.sig_signatures.specs.Read.{signature_of}
@@ -39,7 +39,6 @@ use Rattle.plan_places.proofs.Marked.{next-marked}
 use Rattle.plan_plans.specs.Plan.{spans_of, last_of, hidden_in, start_in, last_cursor_in, plan_in, plan_answer}
 use Rattle.plan_plans.specs.Call.{first_unclear, unclear_in, clear_read, called}
 use Rattle.plan_plans.proofs.Fold as fold
-use Rattle.call_slots.specs.declared.CallAnswer.{CallAnswer}
 use Rattle.call_slots.specs.Buffers.{Buffers}
 use Rattle.call_slots.specs.Placements.{Placement, placement, placements, value_at, values_at}
 use Rattle.call_slots.specs.Refusals.{first_of, or_else, first_of_all, after_reading}
@@ -65,14 +64,15 @@ use Rattle.call_walker.proofs.Reached.{Reached, reached-start, reached-next, rea
 use Rattle.call_walker.proofs.Exactly.{possible-found}
 use Rattle.call_walker.proofs.Words.{words_back, item_back}
 use Rattle.call_walker.proofs.Steps.{step-done, step_value_lem, step-on}
+use Rattle.call_slots.specs.Answer.{CallAnswer, call_done}
 
 -- ---- one step of the walk
 
 -- a step that is accepted
 walk_step : (w : Walker) (t : Tree) (s : List ℕ) (next n base : ℕ) (b : Buffers) (v : List ℕ) → lost w ≡ false → type_item w.convention s ≡ got t next n
-    → step_answer w (type_of w.convention t) (length v) base b ≡ CallAnswer.Done
+    → step_answer w (type_of w.convention t) (length v) base b ≡ call_done
     → walker_step (walker_words w) s base b v
-    ≡ walker_outcome (WalkerAnswer.Called CallAnswer.Done) (walker_words (step_on w (type_of w.convention t))) (overlay v (step_value w (type_of w.convention t) base b))
+    ≡ walker_outcome (WalkerAnswer.Called call_done) (walker_words (step_on w (type_of w.convention t))) (overlay v (step_value w (type_of w.convention t) base b))
 unfolding walker_step step_for
 walk_step w t s next n base b v found read done =
     ap (λ (x : WalkerRead). walk_by x (walker_words w) s base b v) (words_back w found)
@@ -118,9 +118,9 @@ module _ (c : Convention) (e hidden : Bool) (base : ℕ) (b : Buffers) (image : 
   arguments_at d ts = placements c (types_in ts) (spans_of c marked d (types_in ts))
 
   walk-fold : (ts : List Tree) (d : Cursor) (i : ℕ) (v : List ℕ) → All (Asked c) ts → Reached r hidden d → first_unclear c r d i (types_in ts) ≡ 0
-      → (last_of c r d (types_in ts)).stack ≤ 60000 → (last_of c r d (types_in ts)).stack ≤ length b.area → arguments_answer marked base (arguments_at d ts) b ≡ CallAnswer.Done
+      → (last_of c r d (types_in ts)).stack ≤ 60000 → (last_of c r d (types_in ts)).stack ≤ length b.area → arguments_answer marked base (arguments_at d ts) b ≡ call_done
       → All (λ (p : Placement). Readable marked base p b) (arguments_at d ts) → length v ≡ values_of c (types_in ts)
-      → ((walk_over c (walker_words (at d)) ts base b v).answer ≡ WalkerAnswer.Called CallAnswer.Done)
+      → ((walk_over c (walker_words (at d)) ts base b v).answer ≡ WalkerAnswer.Called call_done)
       × ((walk_over c (walker_words (at d)) ts base b v).value ≡ values_at marked base (arguments_at d ts) b)
   unfolding walk_over first_unclear last_of spans_of placements arguments_answer first_of_all values_at values_of All
   walk-fold [] d i v a h clear small area done readable size = (refl, refl)
@@ -140,11 +140,11 @@ module _ (c : Convention) (e hidden : Bool) (base : ℕ) (b : Buffers) (image : 
       let answer = step-done c e hidden d h l ty base b known.0 image (omega (arith, area, on)) each.0 (length (take n v)) into in
       let value : overlay (take n v) (step_value (at d) ty base b) ≡ value_at marked base p b =
       ap (overlay (take n v)) (step_value_lem c e hidden d h l ty base b) ∙ overlay-whole (take n v) (value_at marked base p b) (into ∙ sym (value-length marked base p b readable.0)) in
-      let first : walker_step (walker_words (at d)) (encode_tree t) base b (take n v) ≡ walker_outcome (WalkerAnswer.Called CallAnswer.Done) (walker_words (at next)) (value_at marked base p b) =
+      let first : walker_step (walker_words (at d)) (encode_tree t) base b (take n v) ≡ walker_outcome (WalkerAnswer.Called call_done) (walker_words (at next)) (value_at marked base p b) =
       walk_step (at d) t (encode_tree t) _ _ base b (take n v) found (item_back c t a.0.0 a.0.1) answer
-      ∙ ap₂ (walker_outcome (WalkerAnswer.Called CallAnswer.Done)) (ap walker_words (step-on c e hidden d h l ty base b)) value in
+      ∙ ap₂ (walker_outcome (WalkerAnswer.Called call_done)) (ap walker_words (step-on c e hidden d h l ty base b)) value in
       let rest = walk-fold ts next (suc i) (drop n v) a.1 (reached-next c r hidden d ty l (within-sized c t a.0.0).some h) known.1 small area
-      (subst (λ (x : List Placement). arguments_answer marked base x b ≡ CallAnswer.Done) same each.1)
+      (subst (λ (x : List Placement). arguments_answer marked base x b ≡ call_done) same each.1)
       (subst (All (λ (p : Placement). Readable marked base p b)) same readable.1) (omega (arith, length-drop n v)) in
       let whole = ap (λ (o : WalkerOutcome). followed_by o.answer o (walk_over c o.words ts base b (drop n v))) first in (
         ap (λ (o : WalkerOutcome). o.answer) whole ∙ rest.0,
@@ -179,20 +179,20 @@ last-reached c r d (t ∷ ts) v i l a h =
     rw (x, y) (last-reached c r (next_of r d t (size_of c t)) ts (v + size_of c t) (i + 1) l a.1 (fold.reached-more r d v i t (size_of c t) l a.0.sized.small h))
 
 -- what is accepted passed its reading, with no argument unclear
-accepted-clear : (g : Signature) (next n : ℕ) (x : CallAnswer) → after_reading (plan_answer (called (got g next n))).outcome x ≡ CallAnswer.Done
-    → (unclear_in g ≡ 0) × (x ≡ CallAnswer.Done)
+accepted-clear : (g : Signature) (next n : ℕ) (x : CallAnswer) → after_reading (plan_answer (called (got g next n))).outcome x ≡ call_done
+    → (unclear_in g ≡ 0) × (x ≡ call_done)
 unfolding called plan_answer plan_in
 accepted-clear g next n x e = go (unclear_in g) e
   where
-    go : (u : ℕ) → after_reading (plan_answer (clear_read u g next n)).outcome x ≡ CallAnswer.Done → (u ≡ 0) × (x ≡ CallAnswer.Done)
+    go : (u : ℕ) → after_reading (plan_answer (clear_read u g next n)).outcome x ≡ call_done → (u ≡ 0) × (x ≡ call_done)
     go zero q = (refl, q)
     go (suc i) q = let z : ◌≡◌ {A = ℕ} 0 1 = cc in absurd (omega arith)
 
-accepted-read : (f : _) (x : CallAnswer) → after_reading (plan_answer (called (no f))).outcome x ≡ CallAnswer.Done → ⊥
+accepted-read : (f : _) (x : CallAnswer) → after_reading (plan_answer (called (no f))).outcome x ≡ call_done → ⊥
 unfolding called plan_answer
 accepted-read f x e = let z : ◌≡◌ {A = ℕ} 0 1 = cc in omega arith
 
-plan-area : (n : ℕ) (c : Convention) (e : Bool) (q : ResultType) (ts : List ValueType) → (last_cursor_in c q ts).stack ≤ (plan_in n c e q ts).area
+plan-area : (n : ℕ) (c : Convention) (e : Bool) (q : Option ValueType) (ts : List ValueType) → (last_cursor_in c q ts).stack ≤ (plan_in n c e q ts).area
 unfolding plan_in
 plan-area n c e q ts = area-holds c (last_cursor_in c q ts)
 
@@ -206,12 +206,12 @@ walks-alike s ws base b v accept = go (signature_of s) refl accept
     go : (x : Reading Signature) → signature_of s ≡ x
         → after_reading (plan_answer (called x)).outcome
         (or_else (first_of (read_tests have (plan_answer x).values (plan_answer x).area))
-        (arguments_answer (rules_in (signature_answer x)) base (placements_in (signature_answer x) (plan_answer x)) b)) ≡ CallAnswer.Done
+        (arguments_answer (rules_in (signature_answer x)) base (placements_in (signature_answer x) (plan_answer x)) b)) ≡ call_done
         → SameWalk s ws base b v
     go (no f) e y = absurd (accepted-read f _ y)
     go (got g next n) e y =
         let c : Convention = g.convention in
-        let q : ResultType = result_type c g.result in
+        let q : (Option ValueType) = result_type c g.result in
         let hidden : Bool = hidden_in c q in
         let mark : Bool = g.ellipsis in
         let r : CallRules = rules_by (walker_of g) in
@@ -228,7 +228,7 @@ walks-alike s ws base b v accept = go (signature_of s) refl accept
         let same : placements_in (signature_answer (got g next n)) (plan_answer (got g next n)) ≡ ps =
         arguments-got g next n ∙ ap (λ (z : List ValueType). placements c z (spans_of c r k z)) (sym order) in
         let whole : arguments_of s ≡ ps = ap (λ (z : Reading Signature). placements_in (signature_answer z) (plan_answer z)) e ∙ same in
-        let done : arguments_answer r base ps b ≡ CallAnswer.Done = subst (λ (z : List Placement). arguments_answer r base z b ≡ CallAnswer.Done) same both.1 in
+        let done : arguments_answer r base ps b ≡ call_done = subst (λ (z : List Placement). arguments_answer r base z b ≡ call_done) same both.1 in
         let ready = each-ready s (rules_in (signature_answer (got g next n))) (length b.image) (length b.area) (sym (ap (λ (x : Reading Signature). rules_in (signature_answer x)) e)) lent.image (rw e lent.area) in
         let readable = all-readable r base b ps (subst (All (InBuffers r (length b.image) (length b.area))) whole ready) done in
         let size : length v ≡ values_of c types = lent.values ∙ (sym (planned-values n c mark q (types_of c g.arguments)) ∙ ap (values_of c) (sym order)) in

@@ -1,4 +1,6 @@
 -- A walker's words are read as it, and a type's bytes as that type. Assumes nothing.
+use Rattle.base_conventions.specs.declared.UnknownConvention.{UnknownConvention}
+use Rattle.std.proofs.Common.{Result}
 use mathlib.Core.Path.{◌≡◌, refl, ap, ◌∙◌}
 use mathlib.Core.Bool.{Bool, true, false, ◌&&◌}
 use mathlib.Core.List.{List}
@@ -10,7 +12,6 @@ use lib.ListN.{length}
 use Rattle.base_words.specs.Basics.{pick, flag}
 use Rattle.base_words.proofs.Tests.{flag-leb, flag-eqb}
 use Rattle.base_conventions.specs.declared.Convention.{Convention}
-use Rattle.base_conventions.specs.declared.ConventionCode.{ConventionCode}
 use Rattle.base_conventions.specs.Numbers.{code_of, convention_code}
 use Rattle.base_conventions.proofs.Laws.{code-back}
 use Rattle.sig_types.specs.Trees.{Tree}
@@ -32,7 +33,7 @@ use Rattle.call_walker.specs.Words.{unlost, walker_by, walker_in, walker_words}
 pub words_back : (w : Walker) → lost w ≡ false → walker_in (walker_words w) ≡ WalkerRead.Walker w
 unfolding walker_in walker_words
 words_back w h =
-    ap (λ (k : ConventionCode). walker_by k (walker_words w)) (code-back w.convention)
+    ap (λ (k : Result Convention UnknownConvention). walker_by k (walker_words w)) (code-back w.convention)
     ∙ rw (flag-leb w.ellipsis, flag-leb w.hidden, flag-eqb w.ellipsis, flag-eqb w.hidden, h)
 
 -- the bytes of a type within the limits are its item

@@ -15,13 +15,13 @@ use Rattle.plan_places.specs.declared.Span.{Span}
 use Rattle.plan_places.specs.Step.{rules_of, with_ellipsis, span_of, next_of, unclear_for}
 use Rattle.plan_places.specs.Spots.{image_bytes}
 use Rattle.call_slots.specs.declared.CallRefusal.{CallRefusal}
-use Rattle.call_slots.specs.declared.CallAnswer.{CallAnswer}
 use Rattle.call_slots.specs.Buffers.{Buffers}
 use Rattle.call_slots.specs.Placements.{Placement, placement, value_at}
 use Rattle.call_slots.specs.Refusals.{Test, test, differ, first_of, or_else}
 use Rattle.call_read.specs.Read.{argument_answer}
 use Rattle.call_walker.specs.declared.Walker.{Walker}
 use Rattle.call_walker.specs.Walker.{counters_of, walker, cursor_of}
+use Rattle.call_slots.specs.Answer.{CallAnswer, call_unread}
 
 -- ---- the item
 
@@ -57,7 +57,7 @@ step_tests n s value image area =
 -- No. 12: "give new refusal 29 .. a walker stays put on it", at place 0; then 15, 10 and 11; "13, 14 and 26 are as in reading"
 unfoldable pub step_answer : Walker → ValueType → ℕ → ℕ → Buffers → CallAnswer
 step_answer w t v base b =
-    pick (unclear_for (rules_of w.convention) (cursor_of w) t) (CallAnswer.Unread (fault Refusal.UnclearPlace 0 0))
+    pick (unclear_for (rules_of w.convention) (cursor_of w) t) (call_unread (fault Refusal.UnclearPlace 0 0))
     (or_else (first_of (step_tests (size_by w t) (asked w t).span v (length b.image) (length b.area))) (argument_answer (rules_by w) base (asked w t) b))
 
 -- what it fills the value buffer with

@@ -1,5 +1,5 @@
 -- What is proved of the walker, each claim one type. Assumes nothing.
-use Rattle.std.specs.Prelude.{ℕ, ◌+◌, ◌^◌, ◌≤◌, ◌≡◌, false, List, [], ◌∷◌, ◌++◌, take, drop}
+use Rattle.std.specs.Prelude.{ℕ, ◌+◌, ◌^◌, ◌≤◌, ◌≡◌, false, List, [], ◌∷◌, ◌++◌, take, drop, Ok, Err}
 use Rattle.base_conventions.specs.declared.Convention.{Convention}
 use Rattle.sig_types.specs.Sizes.{size_of}
 use Rattle.sig_types.specs.Trees.{Tree, Trees, none, ◌▸◌, type_of}
@@ -11,7 +11,6 @@ use Rattle.sig_signatures.specs.Read.{signature_of}
 use Rattle.sig_signatures.specs.Types.{types_of}
 use Rattle.plan_places.specs.Step.{rules_of, start_of}
 use Rattle.plan_plans.specs.Plan.{last_of}
-use Rattle.call_slots.specs.declared.CallAnswer.{CallAnswer}
 use Rattle.call_slots.specs.Buffers.{Buffers}
 use Rattle.call_read.specs.Read.{read_lengths, read_answer, read_values}
 use Rattle.call_walker.specs.declared.WalkerAnswer.{WalkerAnswer}
@@ -19,6 +18,7 @@ use Rattle.call_walker.specs.declared.Counters.{Counters}
 use Rattle.call_walker.specs.declared.Walker.{Walker}
 use Rattle.call_walker.specs.Walker.{counters_of, lost, max_counter}
 use Rattle.call_walker.specs.Words.{WalkerOutcome, walker_outcome, walker_step, walk_start_answer, walker_start_words}
+use Rattle.call_slots.specs.Answer.{call_done}
 
 -- ---- 23: counters "that no arguments, however many, lead to"
 
@@ -50,14 +50,13 @@ in_order (ts ▸ t) = in_order ts ++ t ∷ []
 
 -- a step and what follows it, where the step is accepted: the values follow each other
 abbrev pub followed_by : WalkerAnswer → WalkerOutcome → WalkerOutcome → WalkerOutcome
-followed_by (WalkerAnswer.Called CallAnswer.Done) o rest = walker_outcome rest.answer rest.words (o.value ++ rest.value)
-followed_by (WalkerAnswer.Called (CallAnswer.Unread f)) o rest = o
-followed_by (WalkerAnswer.Called (CallAnswer.Refused r)) o rest = o
+followed_by (WalkerAnswer.Called (Ok tt)) o rest = walker_outcome rest.answer rest.words (o.value ++ rest.value)
+followed_by (WalkerAnswer.Called (Err x)) o rest = o
 followed_by WalkerAnswer.Lost o rest = o
 
 -- the walk over types, one after the other: each is asked for with its bytes, and with as much of the values v as it has
 unfoldable pub walk_over : Convention → List ℕ → List Tree → ℕ → Buffers → List ℕ → WalkerOutcome
-walk_over c ws [] base b v = walker_outcome (WalkerAnswer.Called CallAnswer.Done) ws []
+walk_over c ws [] base b v = walker_outcome (WalkerAnswer.Called call_done) ws []
 walk_over c ws (t ∷ ts) base b v =
     let n = size_of c (type_of c t) in
     let o = walker_step ws (encode_tree t) base b (take n v) in
@@ -69,10 +68,10 @@ walk_whole (got g next n) ws base b v = walk_over g.convention (walker_start_wor
 walk_whole (no f) ws base b v = walker_outcome (walk_start_answer (no f)) ws []
 
 pub record SameWalk (s ws : List ℕ) (base : ℕ) (b : Buffers) (v : List ℕ) : Type 0 where
-  pub start : walk_start_answer (signature_of s) ≡ WalkerAnswer.Called CallAnswer.Done
-  pub answer : (walk_whole (signature_of s) ws base b v).answer ≡ WalkerAnswer.Called CallAnswer.Done
-  pub values : (walk_whole (signature_of s) ws base b v).value ≡ read_values s base CallAnswer.Done b v
+  pub start : walk_start_answer (signature_of s) ≡ WalkerAnswer.Called call_done
+  pub answer : (walk_whole (signature_of s) ws base b v).answer ≡ WalkerAnswer.Called call_done
+  pub values : (walk_whole (signature_of s) ws base b v).value ≡ read_values s base call_done b v
 
 -- of values v, the register image, the area and the copies b
 abbrev pub WalksAlike : Type 0
-WalksAlike = (s ws : List ℕ) (base : ℕ) (b : Buffers) (v : List ℕ) → read_answer s (read_lengths v b.image b.area) base b ≡ CallAnswer.Done → SameWalk s ws base b v
+WalksAlike = (s ws : List ℕ) (base : ℕ) (b : Buffers) (v : List ℕ) → read_answer s (read_lengths v b.image b.area) base b ≡ call_done → SameWalk s ws base b v

@@ -3,7 +3,7 @@
 #![tactic(auto)]
 
 use base_conventions::Convention;
-use call_slots::CallAnswer;
+use call_slots::CallError;
 
 // The words of a walker, and the largest counter.
 pub const WALKER_WORDS: usize = 6;
@@ -38,5 +38,5 @@ pub enum WalkerRead {
 #[derive(Clone, Copy)]
 pub enum WalkerAnswer {
     Lost,
-    Called(CallAnswer),
+    Called(Result<(), CallError>),
 }

@@ -1,12 +1,11 @@
 // A walker read from six 64-bit words, with refusal 23, and written to them.
 #![tactic(auto)]
 
-ghost use Rattle.std.specs.Prelude.{◌≡◌, ◌≤◌, length};
-ghost use Rattle.base_conventions.specs.declared.ConventionCode.TheVariants.{Known};
+ghost use Rattle.std.specs.Prelude.{Ok, ◌≡◌, ◌≤◌, length};
 ghost use Rattle.call_walker.specs.Walker.{possible, power_possible, z_possible, in_range, lost};
 ghost use Rattle.call_walker.specs.Words.{walker_by, walker_in, walker_words, walker_length};
 
-use base_conventions::{Convention, ConventionCode};
+use base_conventions::Convention;
 use call_walker::{Counters, MAX_COUNTER, WALKER_WORDS, Walker, WalkerRead};
 use plan_places::CallRules;
 
@@ -63,7 +62,7 @@ fn z_possible(hidden: u64, k: Counters) -> bool
 fn is_possible(r: CallRules, hidden: bool, k: Counters) -> bool
     ensures { result ≡ possible r hidden k }
 {
-    let h = base_words::flag(hidden);
+    let h = u64::from(hidden);
     match r {
         CallRules::Power(_) => power_possible(h, k),
         CallRules::Z => z_possible(h, k),
@@ -97,7 +96,7 @@ fn is_lost(w: Walker) -> bool
 
 #[tactic(auto, using(crate::proofs::Marks::first_mark))]
 fn walker_by(c: Convention, words: &[u64; WALKER_WORDS]) -> WalkerRead
-    ensures { result ≡ walker_by (Known c) words.now }
+    ensures { result ≡ walker_by (Ok c) words.now }
 {
     let ellipsis = words[1];
     let hidden = words[2];
@@ -127,9 +126,9 @@ fn walker_by(c: Convention, words: &[u64; WALKER_WORDS]) -> WalkerRead
 pub fn walker_in(words: &[u64; WALKER_WORDS]) -> WalkerRead
     ensures { result ≡ walker_in words.now }
 {
-    match base_conventions::convention_code(words[0]) {
-        ConventionCode::Known(c) => walker_by(c, words),
-        ConventionCode::Unknown => WalkerRead::Lost,
+    match Convention::try_from(words[0]) {
+        Ok(c) => walker_by(c, words),
+        Err(_) => WalkerRead::Lost,
     }
 }
 
@@ -142,9 +141,9 @@ pub fn put_walker(words: &mut [u64], w: Walker)
 {
     let c = w.convention;
     let k = w.at;
-    words[0] = base_conventions::code_of(c);
-    words[1] = base_words::flag(w.ellipsis);
-    words[2] = base_words::flag(w.hidden);
+    words[0] = u64::from(c);
+    words[1] = u64::from(w.ellipsis);
+    words[2] = u64::from(w.hidden);
     words[3] = k.general;
     words[4] = k.floating;
     words[5] = k.stack;

@@ -23,10 +23,9 @@ use Rattle.plan_places.specs.Helpers.{LawfulCalls}
 use Rattle.plan_places.proofs.Bounds.{rules-lawful, unclear-floating}
 use Rattle.plan_places.proofs.Marked.{next-marked, named-marked}
 use Rattle.plan_places.proofs.Registers.{step-numbered}
-use Rattle.call_slots.specs.declared.CallAnswer.{CallAnswer}
 use Rattle.call_slots.specs.Buffers.{Buffers, buffers}
 use Rattle.call_slots.specs.Placements.{Placement, placement, value_at}
-use Rattle.call_slots.specs.Refusals.{first_of, or_else, first_of_all, is_refused}
+use Rattle.call_slots.specs.Refusals.{first_of, or_else, first_of_all}
 use Rattle.call_slots.proofs.Typed.{Typed, typed}
 use Rattle.call_slots.proofs.Held.{step-held}
 use Rattle.call_slots.proofs.Refusals.{first_done, differ-false, or-refused, not-refused}
@@ -43,6 +42,9 @@ use Rattle.call_walker.proofs.Shifted.{area_from, span-shifts, value-shift, answ
 use Rattle.call_walker.proofs.Exactly.{found-possible}
 use Rattle.call_walking.specs.Helpers.{Declared, counters_after}
 use Rattle.call_walking.proofs.Parts.{local-named, next-after}
+use Rattle.std.proofs.Common.{Ok, Err, is_err}
+use Rattle.call_slots.specs.declared.CallError.{CallError}
+use Rattle.call_slots.specs.Answer.{CallAnswer, call_done, call_unread}
 
 -- ---- what the lengths tell
 
@@ -51,7 +53,7 @@ pub record Passed (n : ℕ) (s : Span) (v i a : ℕ) : Type 0 where
   pub value : v ≡ n
   pub inside : passes s a ≡ false
 
-pub lengths-passed : (n : ℕ) (s : Span) (value image area : ℕ) → first_of (step_tests n s value image area) ≡ CallAnswer.Done → Passed n s value image area
+pub lengths-passed : (n : ℕ) (s : Span) (value image area : ℕ) → first_of (step_tests n s value image area) ≡ call_done → Passed n s value image area
 unfolding step_tests
 lengths-passed n s value image area e =
     let a = first_done _ _ e in
@@ -66,11 +68,11 @@ stored s l e some = ltb-false l (s.memory.start + s.memory.length) (rw (lt-ltb 0
 -- ---- the step
 
 -- a refusal leaves all as it was
-step-no : (a : CallAnswer) (ws : List ℕ) (w : Walker) (t : ValueType) (base : ℕ) (b : Buffers) (v : List ℕ) → is_refused a ≡ true
+step-no : (a : CallAnswer) (ws : List ℕ) (w : Walker) (t : ValueType) (base : ℕ) (b : Buffers) (v : List ℕ) → is_err a ≡ true
     → walker_outcome (WalkerAnswer.Called a) ws v ≡ step_by a ws w t base b v
-step-no CallAnswer.Done ws w t base b v h = let z : ◌≡◌ {A = ℕ} 0 1 = cc in absurd (omega arith)
-step-no (CallAnswer.Unread f) ws w t base b v h = refl
-step-no (CallAnswer.Refused r) ws w t base b v h = refl
+step-no (Ok tt) ws w t base b v h = let z : ◌≡◌ {A = ℕ} 0 1 = cc in absurd (omega arith)
+step-no (Err (CallError.Unread f)) ws w t base b v h = refl
+step-no (Err (CallError.Refused r)) ws w t base b v h = refl
 
 module _ (w : Walker) (t : ValueType) (base : ℕ) (b : Buffers) where
   -- the cursor at offset 0, its offset, and the span there
@@ -87,7 +89,7 @@ module _ (w : Walker) (t : ValueType) (base : ℕ) (b : Buffers) where
   shifted = span-shifts (rules_by w) (cursor_of w) t (size_by w t)
 
   abbrev unclear : CallAnswer
-  unclear = CallAnswer.Unread (fault Refusal.UnclearPlace 0 0)
+  unclear = call_unread (fault Refusal.UnclearPlace 0 0)
 
   near-answer : (v : ℕ)
       → step_answer w t v base b
@@ -102,7 +104,7 @@ module _ (w : Walker) (t : ValueType) (base : ℕ) (b : Buffers) where
       ap₂ (λ (u : Bool) (x : CallAnswer). pick u unclear x) (sym (unclear-floating (rules_of w.convention) (local (cursor_of w)) (cursor_of w) t refl)) (ap₂ or_else tests answer)
 
   module _ (ws v : List ℕ) where
-    by_answer : (a : CallAnswer) → step_answer w t (length v) base b ≡ a → is_refused a ≡ true → walker_outcome (WalkerAnswer.Called a) ws v ≡ step_for ws w t base b v
+    by_answer : (a : CallAnswer) → step_answer w t (length v) base b ≡ a → is_err a ≡ true → walker_outcome (WalkerAnswer.Called a) ws v ≡ step_for ws w t base b v
     unfolding step_for
     by_answer a e h = step-no a ws w t base b v h ∙ ap (λ (x : CallAnswer). step_by x ws w t base b v) (sym e)
 
@@ -115,24 +117,24 @@ module _ (w : Walker) (t : ValueType) (base : ℕ) (b : Buffers) where
           ≡ or_else l (argument_answer (rules_by w) base (placement t (size_by w t) span) (area_from (cursor_of w).stack b))
       answer-is = near-answer (length v) ∙ rw (clear, lengths)
 
-      pub step-lengths : is_refused l ≡ true → walker_outcome (WalkerAnswer.Called l) ws v ≡ step_for ws w t base b v
+      pub step-lengths : is_err l ≡ true → walker_outcome (WalkerAnswer.Called l) ws v ≡ step_for ws w t base b v
       step-lengths h = by_answer l (answer-is ∙ or-refused l _ h) h
 
-      module _ (passed : is_refused l ≡ false) (a : CallAnswer)
+      module _ (passed : is_err l ≡ false) (a : CallAnswer)
           (answer : a ≡ argument_answer (rules_by w) base (placement t (size_by w t) span) (area_from (cursor_of w).stack b)) where
         last : step_answer w t (length v) base b ≡ a
         last = answer-is ∙ ap₂ or_else (not-refused l passed) (sym answer)
 
-        pub step-answer : is_refused a ≡ true → walker_outcome (WalkerAnswer.Called a) ws v ≡ step_for ws w t base b v
+        pub step-answer : is_err a ≡ true → walker_outcome (WalkerAnswer.Called a) ws v ≡ step_for ws w t base b v
         step-answer h = by_answer a last h
 
-        pub step-done : is_refused a ≡ false
-            → walker_outcome (WalkerAnswer.Called CallAnswer.Done) (walker_words (step_on w t)) (overlay v (value_at (rules_by w) base (placement t (size_by w t) span) (area_from (cursor_of w).stack b)))
+        pub step-done : is_err a ≡ false
+            → walker_outcome (WalkerAnswer.Called call_done) (walker_words (step_on w t)) (overlay v (value_at (rules_by w) base (placement t (size_by w t) span) (area_from (cursor_of w).stack b)))
             ≡ step_for ws w t base b v
         unfolding step_for asked
         step-done h =
             let value = value-shift t (size_by w t) (cursor_of w).stack (span_of (rules_by w) (cursor_of w) t (size_by w t)) span b shifted (rules_by w) base in
-            ap (λ (x : List ℕ). walker_outcome (WalkerAnswer.Called CallAnswer.Done) (walker_words (step_on w t)) (overlay v x)) (sym value)
+            ap (λ (x : List ℕ). walker_outcome (WalkerAnswer.Called call_done) (walker_words (step_on w t)) (overlay v x)) (sym value)
             ∙ ap (λ (x : CallAnswer). step_by x ws w t base b v) (sym (last ∙ not-refused a h))
 
   module _ (found : lost w ≡ false) (known : Declared w.convention t) where
@@ -162,7 +164,7 @@ module _ (w : Walker) (t : ValueType) (base : ℕ) (b : Buffers) where
 
     -- and where nothing refuses it, be read
     pub step-readable : InBuffers (rules_by w) (length b.image) (length part) (placement t (size_by w t) span)
-        → argument_answer (rules_by w) base (placement t (size_by w t) span) (area_from (cursor_of w).stack b) ≡ CallAnswer.Done
+        → argument_answer (rules_by w) base (placement t (size_by w t) span) (area_from (cursor_of w).stack b) ≡ call_done
         → Readable (rules_by w) base (placement t (size_by w t) span) (area_from (cursor_of w).stack b)
     unfolding All arguments_answer first_of_all
     step-readable ready done = (all-readable (rules_by w) base (area_from (cursor_of w).stack b) (placement t (size_by w t) span ∷ []) (ready, tt) (rw done)).0

@@ -18,10 +18,9 @@ use Rattle.plan_places.specs.Step.{rules_of, next_of, unclear_for, placed}
 use Rattle.plan_places.specs.Helpers.{LawfulCalls, Roomy}
 use Rattle.plan_places.proofs.Bounds.{rules-lawful}
 use Rattle.plan_places.proofs.Marked.{lawful-marked, next-marked}
-use Rattle.call_slots.specs.declared.CallAnswer.{CallAnswer}
 use Rattle.call_slots.specs.Buffers.{Buffers, buffers}
 use Rattle.call_slots.specs.Placements.{placement, value_at}
-use Rattle.call_slots.specs.Refusals.{first_of, is_refused}
+use Rattle.call_slots.specs.Refusals.{first_of}
 use Rattle.call_slots.proofs.Refusals.{not-refused}
 use Rattle.call_unmarshal.specs.Helpers.{InBuffers, Readable}
 use Rattle.call_read.specs.Read.{argument_answer}
@@ -37,6 +36,8 @@ use Rattle.call_walker.proofs.Exactly.{found-possible}
 use Rattle.call_walking.specs.Helpers.{Declared, Offset, Countable, counters_after}
 use Rattle.call_walking.proofs.Parts.{possible-offset, local-roomy, next-countable}
 use Rattle.call_walking.proofs.Steps.{near, span, Passed, lengths-passed, step-unclear, step-lengths, step-answer, step-done, step-moves, step-ready, step-readable}
+use Rattle.std.proofs.Common.{is_err}
+use Rattle.call_slots.specs.Answer.{CallAnswer, call_done, call_unread}
 
 -- the rules without and with the mark, the cursor at offset 0 and the size
 pub record Went (w : Walker) (t : ValueType) (plain r : CallRules) (d : Cursor) (n : ℕ) : Type 0 where
@@ -77,7 +78,7 @@ module _ (w : Walker) (t : ValueType) (plain r : CallRules) (d : Cursor) (n : �
 
   module _ (ws v : List ℕ) where
     pub went-unclear : unclear_for plain d t ≡ true
-        → walker_outcome (WalkerAnswer.Called (CallAnswer.Unread (fault Refusal.UnclearPlace 0 0))) ws v ≡ step_for ws w t base b v
+        → walker_outcome (WalkerAnswer.Called (call_unread (fault Refusal.UnclearPlace 0 0))) ws v ≡ step_for ws w t base b v
     went-unclear e = step-unclear w t base b ws v (clear-is true e)
 
   -- ---- the span, and the part of the area from m on
@@ -114,7 +115,7 @@ module _ (w : Walker) (t : ValueType) (plain r : CallRules) (d : Cursor) (n : �
           rw (next-is, next-marked w.ellipsis (rules_of w.convention) (near w t base b) t (size_by w t), g.plain-is)
           (next-countable (rules_of w.convention) w.hidden w.at t (size_by w t) (rules-lawful w.convention) (found-possible w found) known.sized.small)
 
-      module _ (v : ℕ) (l : CallAnswer) (e : l ≡ first_of (step_tests n p.span v (length image) (length area - m))) (yes : is_refused l ≡ false) where
+      module _ (v : ℕ) (l : CallAnswer) (e : l ≡ first_of (step_tests n p.span v (length image) (length area - m))) (yes : is_err l ≡ false) where
         passed : Passed (size_by w t) (span w t base b) v (length image) (length (drop offset area))
         passed = lengths-passed (size_by w t) (span w t base b) v (length image) (length (drop offset area)) (sym (lengths-is v (length image) l e) ∙ not-refused l yes)
 
@@ -124,7 +125,7 @@ module _ (w : Walker) (t : ValueType) (plain r : CallRules) (d : Cursor) (n : �
         pub went-ready : InBuffers r (length image) (length part) (placement t n p.span)
         went-ready = rw (g.rules-is, g.size_is, span-is, part-is) (step-ready w t base b found known passed.image passed.inside)
 
-        pub went-readable : (a : CallAnswer) → a ≡ argument_answer r base (placement t n p.span) (buffers image part copies) → is_refused a ≡ false
+        pub went-readable : (a : CallAnswer) → a ≡ argument_answer r base (placement t n p.span) (buffers image part copies) → is_err a ≡ false
             → Readable r base (placement t n p.span) (buffers image part copies)
         went-readable a q done =
             rw (g.rules-is, g.size_is, span-is, part-is)
@@ -134,15 +135,15 @@ module _ (w : Walker) (t : ValueType) (plain r : CallRules) (d : Cursor) (n : �
 
     module _ (clear : unclear_for plain d t ≡ false) (ws v : List ℕ) (l : CallAnswer)
         (e : l ≡ first_of (step_tests n p.span (length v) (length image) (length area - m))) where
-      pub went-lengths : is_refused l ≡ true → walker_outcome (WalkerAnswer.Called l) ws v ≡ step_for ws w t base b v
+      pub went-lengths : is_err l ≡ true → walker_outcome (WalkerAnswer.Called l) ws v ≡ step_for ws w t base b v
       went-lengths h = step-lengths w t base b ws v (clear-is false clear) l (lengths-is (length v) (length image) l e) h
 
-      module _ (yes : is_refused l ≡ false) (a : CallAnswer) (q' : a ≡ argument_answer r base (placement t n p.span) (buffers image part copies)) where
-        pub went-answer : is_refused a ≡ true → walker_outcome (WalkerAnswer.Called a) ws v ≡ step_for ws w t base b v
+      module _ (yes : is_err l ≡ false) (a : CallAnswer) (q' : a ≡ argument_answer r base (placement t n p.span) (buffers image part copies)) where
+        pub went-answer : is_err a ≡ true → walker_outcome (WalkerAnswer.Called a) ws v ≡ step_for ws w t base b v
         went-answer h = step-answer w t base b ws v (clear-is false clear) l (lengths-is (length v) (length image) l e) yes a (answer-is a q') h
 
-        pub went-done : lost w ≡ false → Declared w.convention t → is_refused a ≡ false → (k : Counters) → k ≡ counters_after plain w.at p.next
-            → walker_outcome (WalkerAnswer.Called CallAnswer.Done) (walker_words (walker w.convention w.ellipsis w.hidden k))
+        pub went-done : lost w ≡ false → Declared w.convention t → is_err a ≡ false → (k : Counters) → k ≡ counters_after plain w.at p.next
+            → walker_outcome (WalkerAnswer.Called call_done) (walker_words (walker w.convention w.ellipsis w.hidden k))
             (overlay v (value_at r base (placement t n p.span) (buffers image part copies))) ≡ step_for ws w t base b v
         went-done found known h k x =
             let on : k ≡ counters_after (rules_of w.convention) w.at (next_of (rules_by w) (near w t base b) t (size_by w t)) = x ∙ rw (g.plain-is, next-is) in

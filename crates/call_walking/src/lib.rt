@@ -17,12 +17,11 @@ ghost use Rattle.call_walker.specs.Helpers.{local};
 ghost use Rattle.call_walking.specs.Helpers.{Declared, Offset, Countable, counters_after};
 
 use base_conventions::Convention;
-use call_slots::{CallAnswer, CallRefusal};
+use call_slots::{CallError, CallRefusal};
 use call_walker::{Counters, WALKER_WORDS, Walker, WalkerAnswer, WalkerRead};
 use plan_places::{CallRules, Cursor, IMAGE_BYTES, Span};
 use sig_head::MAX_LENGTH;
-use sig_items::{Fault, ItemRead, Refusal};
-use sig_signatures::{Outcome, ResultType};
+use sig_items::{Fault, Item, Refusal};
 use sig_types::ValueType;
 
 // ---- the counters
@@ -53,7 +52,7 @@ fn local_cursor(r: CallRules, k: Counters) -> Cursor
 {
     match r {
         CallRules::Power(_) => Cursor {
-            general: 3 + base_words::smaller(k.general as usize, 8),
+            general: 3 + (k.general as usize).min(8),
             floating: 1 + k.floating as usize,
             stack: 0,
             copies: 0,
@@ -80,7 +79,7 @@ fn offset_of(r: CallRules, k: Counters) -> usize
 
 // ---- the start
 
-fn walker_of(c: Convention, ellipsis: bool, res: ResultType) -> Walker
+fn walker_of(c: Convention, ellipsis: bool, res: Option<ValueType>) -> Walker
     ensures { result ≡ walker_at c ellipsis (hidden_in c res) (counters_of (rules_of c) (start_in c res)) }
 {
     let r = both_abi::call_rules_of(c);
@@ -108,14 +107,14 @@ pub fn start(words: &mut [u64; WALKER_WORDS], sig: &[u8]) -> WalkerAnswer
     let g = sig_whole::read_signature(sig);
     let outcome = g.outcome;
     match outcome {
-        Outcome::Refused(fault) => WalkerAnswer::Called(CallAnswer::Unread(fault)),
-        Outcome::Accepted(_) => {
+        Err(fault) => WalkerAnswer::Called(Err(CallError::Unread(fault))),
+        Ok(_) => {
             let convention = g.convention;
             let result = g.result;
             let ellipsis = g.ellipsis;
             let w = walker_of(convention, ellipsis, result);
             call_walker_words::put_walker(words, w);
-            WalkerAnswer::Called(CallAnswer::Done)
+            WalkerAnswer::Called(Ok(()))
         }
     }
 }
@@ -123,27 +122,27 @@ pub fn start(words: &mut [u64; WALKER_WORDS], sig: &[u8]) -> WalkerAnswer
 // ---- a step
 
 // One type item and nothing after it.
-fn read_type(s: &[u8], c: Convention) -> ItemRead
+fn read_type(s: &[u8], c: Convention) -> Result<Item, Fault>
     ensures { result ≡ item_answer c (type_item c s.now) }
 {
     if MAX_LENGTH < s.len() {
-        return ItemRead::Refused(Fault {
+        return Err(Fault {
             reason: Refusal::TooLong,
             place: 0,
             passed: 0,
         });
     }
     match sig_nested_items::read_item(s, c, 0, s.len(), sig_types::MAX_DEPTH) {
-        ItemRead::Refused(fault) => ItemRead::Refused(fault),
-        ItemRead::Item { ty, next, items } => {
+        Err(fault) => Err(fault),
+        Ok(Item { ty, next, items }) => {
             if next < s.len() {
-                return ItemRead::Refused(Fault {
+                return Err(Fault {
                     reason: Refusal::Malformed,
                     place: next,
                     passed: items,
                 });
             }
-            ItemRead::Item { ty, next, items }
+            Ok(Item { ty, next, items })
         }
     }
 }
@@ -160,19 +159,19 @@ fn passes_area(s: Span, area: usize) -> bool
 }
 
 // The tests of the lengths.
-fn tested(n: usize, s: Span, value: usize, image: usize, area: usize) -> CallAnswer
+fn tested(n: usize, s: Span, value: usize, image: usize, area: usize) -> Result<(), CallError>
     ensures { result ≡ first_of (step_tests n s value image area) }
 {
     if image != IMAGE_BYTES {
-        return CallAnswer::Refused(CallRefusal::ImageSize);
+        return Err(CallError::Refused(CallRefusal::ImageSize));
     }
     if value != n {
-        return CallAnswer::Refused(CallRefusal::ValuesSize);
+        return Err(CallError::Refused(CallRefusal::ValuesSize));
     }
     if passes_area(s, area) {
-        return CallAnswer::Refused(CallRefusal::AreaTooShort);
+        return Err(CallError::Refused(CallRefusal::AreaTooShort));
     }
-    CallAnswer::Done
+    Ok(())
 }
 
 // A step of a walker, once its item is read.
@@ -200,22 +199,22 @@ fn step(
     let r = call_arguments::rules_in(c, ellipsis);
     let d = local_cursor(plain, k);
     if plan_placing::unclear_for(plain, d, t) {
-        return WalkerAnswer::Called(CallAnswer::Unread(Fault {
+        return WalkerAnswer::Called(Err(CallError::Unread(Fault {
             reason: Refusal::UnclearPlace,
             place: 0,
             passed: 0,
-        }));
+        })));
     }
     let p = plan_placing::step(r, d, t, n);
     let s = p.span;
     let next = p.next;
-    let from = base_words::smaller(offset_of(plain, k), area.len());
+    let from = offset_of(plain, k).min(area.len());
     let lengths = tested(n, s, value.len(), image.len(), area.len() - from);
-    if call_slots::is_refused(lengths) {
+    if lengths.is_err() {
         return WalkerAnswer::Called(lengths);
     }
     let answer = call_read::argument_answer(image, &area[from..], copies, r, t, n, s, base);
-    if call_slots::is_refused(answer) {
+    if answer.is_err() {
         return WalkerAnswer::Called(answer);
     }
     call_unmarshal::take_argument(value, image, &area[from..], copies, r, t, n, s, base);
@@ -229,7 +228,7 @@ fn step(
             at,
         },
     );
-    WalkerAnswer::Called(CallAnswer::Done)
+    WalkerAnswer::Called(Ok(()))
 }
 
 // The walker asked with one type item's bytes: its value, and the walker moved on. A refused call leaves the words and the value buffer as they were.
@@ -251,12 +250,14 @@ pub fn walk(
         WalkerRead::Walker(w) => {
             let c = w.convention;
             match read_type(item, c) {
-                ItemRead::Refused(fault) => WalkerAnswer::Called(CallAnswer::Unread(fault)),
-                ItemRead::Item {
-                    ty,
-                    next: _,
-                    items: _,
-                } => step(words, w, ty, value, image, area, copies, base),
+                Err(fault) => WalkerAnswer::Called(Err(CallError::Unread(fault))),
+                Ok(
+                    Item {
+                        ty,
+                        next: _,
+                        items: _,
+                    },
+                ) => step(words, w, ty, value, image, area, copies, base),
             }
         }
     }

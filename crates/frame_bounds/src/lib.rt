@@ -14,49 +14,30 @@ const LEAST_MEMORY: usize = 256;
 const MAX_MEMORY: usize = 65536;
 
 // Are a memory's base and length in range? (Refusal 16.)
+#[tactic(auto, unfolding(frame_machine::specs::Machine::ok_memory))]
 pub fn memory_ok(k: FrameRules, base: u64, n: usize) -> bool
     requires { LawfulFrames k }
     ensures { result ≡ ok_memory k base n }
 {
-    if n % 16 != 0 {
-        return false;
-    }
-    if n < LEAST_MEMORY {
-        return false;
-    }
-    if MAX_MEMORY < n {
-        return false;
-    }
-    if base % 16 != 0 {
-        return false;
-    }
-    if k.limit - (n as u64) < base {
-        return false;
-    }
-    k.room + k.floor <= n
+    n % 16 == 0
+        && LEAST_MEMORY <= n
+        && n <= MAX_MEMORY
+        && base % 16 == 0
+        && base <= k.limit - n as u64
+        && k.room + k.floor <= n
 }
 
 // Are all 32 numbers at most m?
 fn all_within(m: u64, xs: [u64; 32]) -> bool
     ensures { result ≡ all_within m xs 32 }
 {
-    let mut i: usize = 32;
-    while 0 < i {
-        i -= 1;
-        if m < xs[i] {
-            return false;
-        }
-    }
-    true
+    xs.iter().all(|x| *x <= m)
 }
 
 // Do the general registers and LR fit a word?
+#[tactic(auto, unfolding(frame_rules::specs::Frames::ok_registers))]
 pub fn registers_ok(k: FrameRules, r: Registers) -> bool
     ensures { result ≡ ok_registers k r }
 {
-    let gpr = r.gpr;
-    if !all_within(k.limit, gpr) {
-        return false;
-    }
-    r.lr <= k.limit
+    all_within(k.limit, r.gpr) && r.lr <= k.limit
 }

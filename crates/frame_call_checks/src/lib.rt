@@ -7,7 +7,7 @@ ghost use Rattle.frame_rules.specs.Frames.{max_outgoing, outgoing_length, max_me
 ghost use Rattle.frame_machine.specs.Machine.{inside, outgoing_from, locals_from, writable_bytes, writable_address, enter_answer, write_register_answer, write_memory_answer, leave_answer};
 ghost use Rattle.frame_machine.specs.Helpers.{Sound};
 
-use frame_machine::{FrameAnswer, FrameRefusal, MAX_ENTERED, State};
+use frame_machine::{FrameRefusal, MAX_ENTERED, State};
 use frame_rules::{Frame, FrameRules};
 
 // The most bytes that one call may write.
@@ -17,13 +17,7 @@ const MAX_WRITE: usize = 256;
 fn lies_inside(a: usize, n: usize, b: usize, e: usize) -> bool
     ensures { result ≡ inside a n b e }
 {
-    if a < b {
-        return false;
-    }
-    if e < a {
-        return false;
-    }
-    n <= e - a
+    b <= a && a <= e && n <= e - a
 }
 
 // Where the own outgoing area and the locals of the frame f start, with its pointer at o.
@@ -31,10 +25,7 @@ fn outgoing_from(k: FrameRules, f: Frame, o: usize) -> usize
     requires { (LawfulFrames k) × (k.floor ≤ o) × (o ≤ max_memory) }
     ensures { result ≡ outgoing_from k f o }
 {
-    if f.leaf {
-        return o - k.floor;
-    }
-    o + k.header
+    if f.leaf { o - k.floor } else { o + k.header }
 }
 
 fn locals_from(k: FrameRules, f: Frame, o: usize) -> usize
@@ -42,9 +33,10 @@ fn locals_from(k: FrameRules, f: Frame, o: usize) -> usize
     ensures { result ≡ locals_from k f o }
 {
     if f.leaf {
-        return o - k.floor;
+        o - k.floor
+    } else {
+        o + k.header + frame_requests::outgoing_length(k, f)
     }
-    o + k.header + frame_requests::outgoing_length(k, f)
 }
 
 // May the n bytes from offset a be written?
@@ -86,43 +78,35 @@ fn bytes_writable(k: FrameRules, s: State, a: usize, n: usize, len: usize) -> bo
 }
 
 // The same of n bytes at an address.
+#[tactic(auto, unfolding(frame_machine::specs::Machine::writable_address))]
 pub fn address_writable(k: FrameRules, s: State, address: u64, n: usize, len: usize) -> bool
     requires { (LawfulFrames k) × (Sound k s len) }
     ensures { result ≡ writable_address k s address n }
 {
-    let b = s.base;
-    if address < b {
-        return false;
-    }
-    bytes_writable(k, s, (address - b) as usize, n, len)
+    s.base <= address && bytes_writable(k, s, (address - s.base) as usize, n, len)
 }
 
-pub fn judge_enter(k: FrameRules, s: State, n: usize, f: Frame) -> FrameAnswer
+pub fn judge_enter(k: FrameRules, s: State, n: usize, f: Frame) -> Result<(), FrameRefusal>
     requires { LawfulFrames k }
     ensures { result ≡ enter_answer k s n f }
 {
-    let a = frame_state_checks::judge_state(k, s, n);
-    match a {
-        FrameAnswer::Refused(r) => FrameAnswer::Refused(r),
-        FrameAnswer::Accepted => {
-            if !frame_requests::request_ok(k, f) {
-                return FrameAnswer::Refused(FrameRefusal::BadRequest);
-            }
-            let u = frame_state_checks::top_frame(k, s);
-            if u.leaf {
-                return FrameAnswer::Refused(FrameRefusal::AboveLeaf);
-            }
-            if MAX_ENTERED <= s.depth {
-                return FrameAnswer::Refused(FrameRefusal::TooManyFrames);
-            }
-            let p = frame_state_checks::stack_pointer(k, s);
-            let z = frame_requests::frame_size(k, f);
-            if p - s.base < (z + k.floor) as u64 {
-                return FrameAnswer::Refused(FrameRefusal::NoRoom);
-            }
-            FrameAnswer::Accepted
-        }
+    frame_state_checks::judge_state(k, s, n)?;
+    if !frame_requests::request_ok(k, f) {
+        return Err(FrameRefusal::BadRequest);
     }
+    let u = frame_state_checks::top_frame(k, s);
+    if u.leaf {
+        return Err(FrameRefusal::AboveLeaf);
+    }
+    if MAX_ENTERED <= s.depth {
+        return Err(FrameRefusal::TooManyFrames);
+    }
+    let p = frame_state_checks::stack_pointer(k, s);
+    let z = frame_requests::frame_size(k, f);
+    if p - s.base < (z + k.floor) as u64 {
+        return Err(FrameRefusal::NoRoom);
+    }
+    Ok(())
 }
 
 pub fn judge_write_register(
@@ -132,64 +116,54 @@ pub fn judge_write_register(
     bank: u64,
     number: u64,
     value: u64,
-) -> FrameAnswer
+) -> Result<(), FrameRefusal>
     requires { LawfulFrames k }
     ensures { result ≡ write_register_answer k s n bank number value }
 {
-    let a = frame_state_checks::judge_state(k, s, n);
-    match a {
-        FrameAnswer::Refused(r) => FrameAnswer::Refused(r),
-        FrameAnswer::Accepted => {
-            let f = frame_state_checks::top_frame(k, s);
-            let b = frame_writing::bank_of(bank);
-            if !frame_writing::register_writable(k, f, b, number as usize, value) {
-                return FrameAnswer::Refused(FrameRefusal::NotPermitted);
-            }
-            FrameAnswer::Accepted
-        }
+    frame_state_checks::judge_state(k, s, n)?;
+    let f = frame_state_checks::top_frame(k, s);
+    let b = frame_writing::bank_of(bank);
+    if !frame_writing::register_writable(k, f, b, number as usize, value) {
+        return Err(FrameRefusal::NotPermitted);
     }
+    Ok(())
 }
 
-pub fn judge_write_memory(k: FrameRules, s: State, n: usize, address: u64, m: usize) -> FrameAnswer
+pub fn judge_write_memory(
+    k: FrameRules,
+    s: State,
+    n: usize,
+    address: u64,
+    m: usize,
+) -> Result<(), FrameRefusal>
     requires { LawfulFrames k }
     ensures { result ≡ write_memory_answer k s n address m }
 {
-    let a = frame_state_checks::judge_state(k, s, n);
-    match a {
-        FrameAnswer::Refused(r) => FrameAnswer::Refused(r),
-        FrameAnswer::Accepted => {
-            if !address_writable(k, s, address, m, n) {
-                return FrameAnswer::Refused(FrameRefusal::NotPermitted);
-            }
-            FrameAnswer::Accepted
-        }
+    frame_state_checks::judge_state(k, s, n)?;
+    if !address_writable(k, s, address, m, n) {
+        return Err(FrameRefusal::NotPermitted);
     }
+    Ok(())
 }
 
-pub fn judge_leave(k: FrameRules, s: State, memory: &[u8]) -> FrameAnswer
+pub fn judge_leave(k: FrameRules, s: State, memory: &[u8]) -> Result<(), FrameRefusal>
     requires { LawfulFrames k }
     ensures { result ≡ leave_answer k s memory.now }
 {
-    let a = frame_state_checks::judge_state(k, s, memory.len());
-    match a {
-        FrameAnswer::Refused(r) => FrameAnswer::Refused(r),
-        FrameAnswer::Accepted => {
-            if s.depth == 0 {
-                return FrameAnswer::Refused(FrameRefusal::NothingEntered);
-            }
-            let f = frame_state_checks::top_frame(k, s);
-            if f.leaf {
-                return FrameAnswer::Accepted;
-            }
-            let z = frame_requests::frame_size(k, f);
-            let p = frame_state_checks::stack_pointer(k, s);
-            let b = s.base;
-            let o = (p - b) as usize;
-            let at = frame_preserving::link_at(k, o, o + z);
-            if base_words::load(memory, at, k.word) != p + z as u64 {
-                return FrameAnswer::Refused(FrameRefusal::BrokenChain);
-            }
-            FrameAnswer::Accepted
-        }
+    frame_state_checks::judge_state(k, s, memory.len())?;
+    if s.depth == 0 {
+        return Err(FrameRefusal::NothingEntered);
     }
+    let frame = frame_state_checks::top_frame(k, s);
+    if frame.leaf {
+        return Ok(());
+    }
+    let z = frame_requests::frame_size(k, frame);
+    let p = frame_state_checks::stack_pointer(k, s);
+    let o = (p - s.base) as usize;
+    let at = frame_preserving::link_at(k, o, o + z);
+    if base_words::load(memory, at, k.word) != p + z as u64 {
+        return Err(FrameRefusal::BrokenChain);
+    }
+    Ok(())
 }

@@ -7,8 +7,8 @@ ghost use Rattle.frame_rules.specs.Helpers.{LawfulFrames};
 ghost use Rattle.frame_machine.specs.Machine.{entered, entered_memory, left, enter_outcome, enter_memory, write_register_outcome, write_memory_outcome, write_memory_memory, leave_outcome};
 ghost use Rattle.frame_machine.specs.Helpers.{Sound, CanEnter, CanLeave};
 
-use frame_machine::{FrameAnswer, FrameOutcome, State};
-use frame_rules::{Frame, FrameRules};
+use frame_machine::{FrameOutcome, State};
+use frame_rules::{Frame, FrameRules, NO_FRAME};
 
 // The state with the frame entered.
 pub fn push(k: FrameRules, s: State, f: Frame) -> State
@@ -17,13 +17,11 @@ pub fn push(k: FrameRules, s: State, f: Frame) -> State
 {
     let p = frame_state_checks::stack_pointer(k, s);
     let z = frame_requests::frame_size(k, f);
-    let d = s.depth;
-    let registers = s.registers;
-    let r = frame_rules::with_pointer(k, registers, p - z as u64);
+    let r = frame_rules::with_pointer(k, s.registers, p - z as u64);
     let mut t = s;
     t.registers = r;
-    t.frames[d] = f;
-    t.depth = d + 1;
+    t.frames[s.depth] = f;
+    t.depth = s.depth + 1;
     t
 }
 
@@ -34,11 +32,9 @@ pub fn save_frame(memory: &mut [u8], k: FrameRules, s: State, f: Frame)
 {
     let p = frame_state_checks::stack_pointer(k, s);
     let z = frame_requests::frame_size(k, f);
-    let b = s.base;
-    let o = (p - b) as usize;
-    let registers = s.registers;
+    let o = (p - s.base) as usize;
     base_words::store(memory, o - z, frame_requests::chain_width(k, f), p);
-    frame_preserving::save_registers(memory, k, f, registers, o);
+    frame_preserving::save_registers(memory, k, f, s.registers, o);
 }
 
 // The state with the frame left.
@@ -49,22 +45,13 @@ pub fn pop(k: FrameRules, s: State, memory: &[u8]) -> State
     let f = frame_state_checks::top_frame(k, s);
     let z = frame_requests::frame_size(k, f);
     let p = frame_state_checks::stack_pointer(k, s);
-    let b = s.base;
-    let o = (p - b) as usize;
+    let o = (p - s.base) as usize;
     let d = s.depth - 1;
-    let registers = s.registers;
-    let r = frame_preserving::restore(memory, k, f, o + z, p + z as u64, registers);
+    let r = frame_preserving::restore(memory, k, f, o + z, p + z as u64, s.registers);
     let mut popped = s;
     popped.registers = r;
     popped.depth = d;
-    popped.frames[d] = Frame {
-        first_gpr: 0,
-        first_fpr: 0,
-        saves_cr: false,
-        locals: 0,
-        outgoing: 0,
-        leaf: false,
-    };
+    popped.frames[d] = NO_FRAME;
     popped
 }
 
@@ -73,20 +60,17 @@ pub fn enter(s: State, memory: &mut [u8], f: Frame) -> FrameOutcome
     ensures value { result ≡ enter_outcome s (length memory.old) f }
     ensures memory_after { memory.new ≡ enter_memory s memory.old f }
 {
-    let c = s.convention;
-    let k = both_abi::frame_rules_of(c);
-    let n = memory.len();
-    let a = frame_call_checks::judge_enter(k, s, n, f);
-    match a {
-        FrameAnswer::Refused(r) => FrameOutcome {
-            answer: FrameAnswer::Refused(r),
+    let k = both_abi::frame_rules_of(s.convention);
+    match frame_call_checks::judge_enter(k, s, memory.len(), f) {
+        Err(r) => FrameOutcome {
+            answer: Err(r),
             state: s,
         },
-        FrameAnswer::Accepted => {
+        Ok(()) => {
             let t = push(k, s, f);
             save_frame(memory, k, s, f);
             FrameOutcome {
-                answer: FrameAnswer::Accepted,
+                answer: Ok(()),
                 state: t,
             }
         }
@@ -97,24 +81,19 @@ pub fn enter(s: State, memory: &mut [u8], f: Frame) -> FrameOutcome
 pub fn write_register(s: State, memory: &[u8], bank: u64, number: u64, value: u64) -> FrameOutcome
     ensures { result ≡ write_register_outcome s (length memory.now) bank number value }
 {
-    let c = s.convention;
-    let k = both_abi::frame_rules_of(c);
-    let n = memory.len();
-    let a = frame_call_checks::judge_write_register(k, s, n, bank, number, value);
-    match a {
-        FrameAnswer::Refused(r) => FrameOutcome {
-            answer: FrameAnswer::Refused(r),
+    let k = both_abi::frame_rules_of(s.convention);
+    match frame_call_checks::judge_write_register(k, s, memory.len(), bank, number, value) {
+        Err(r) => FrameOutcome {
+            answer: Err(r),
             state: s,
         },
-        FrameAnswer::Accepted => {
+        Ok(()) => {
             let b = frame_writing::bank_of(bank);
             let registers = s.registers;
             let r = frame_writing::with_register(registers, b, number as usize, value);
-            let mut written = s;
-            written.registers = r;
             FrameOutcome {
-                answer: FrameAnswer::Accepted,
-                state: written,
+                answer: Ok(()),
+                state: State { registers: r, ..s },
             }
         }
     }
@@ -125,20 +104,17 @@ pub fn write_memory(s: State, memory: &mut [u8], address: u64, bytes: &[u8]) -> 
     ensures value { result ≡ write_memory_outcome s (length memory.old) address (length bytes.now) }
     ensures memory_after { memory.new ≡ write_memory_memory s memory.old address bytes.now }
 {
-    let c = s.convention;
-    let k = both_abi::frame_rules_of(c);
-    let a = frame_call_checks::judge_write_memory(k, s, memory.len(), address, bytes.len());
-    match a {
-        FrameAnswer::Refused(r) => FrameOutcome {
-            answer: FrameAnswer::Refused(r),
+    let k = both_abi::frame_rules_of(s.convention);
+    match frame_call_checks::judge_write_memory(k, s, memory.len(), address, bytes.len()) {
+        Err(r) => FrameOutcome {
+            answer: Err(r),
             state: s,
         },
-        FrameAnswer::Accepted => {
-            let b = s.base;
-            let at = (address - b) as usize;
+        Ok(()) => {
+            let at = (address - s.base) as usize;
             base_words::put(&mut memory[at..], bytes);
             FrameOutcome {
-                answer: FrameAnswer::Accepted,
+                answer: Ok(()),
                 state: s,
             }
         }
@@ -149,16 +125,14 @@ pub fn write_memory(s: State, memory: &mut [u8], address: u64, bytes: &[u8]) -> 
 pub fn leave(s: State, memory: &[u8]) -> FrameOutcome
     ensures { result ≡ leave_outcome s memory.now }
 {
-    let c = s.convention;
-    let k = both_abi::frame_rules_of(c);
-    let a = frame_call_checks::judge_leave(k, s, memory);
-    match a {
-        FrameAnswer::Refused(r) => FrameOutcome {
-            answer: FrameAnswer::Refused(r),
+    let k = both_abi::frame_rules_of(s.convention);
+    match frame_call_checks::judge_leave(k, s, memory) {
+        Err(r) => FrameOutcome {
+            answer: Err(r),
             state: s,
         },
-        FrameAnswer::Accepted => FrameOutcome {
-            answer: FrameAnswer::Accepted,
+        Ok(()) => FrameOutcome {
+            answer: Ok(()),
             state: pop(k, s, memory),
         },
     }

@@ -1,4 +1,5 @@
 -- The laws of a walk: one turn of it, what it counts, and where the frames that it found lie. Assumes nothing.
+use Rattle.std.proofs.Common.{Result, Ok, Err}
 use Prim.Native.Nat.{ℕ, zero, suc, ◌+◌, ◌-◌, ◌*◌, ◌%◌, ◌^◌, ◌≤◌, ◌<◌}
 use mathlib.Core.Path.{◌≡◌, refl, sym, ap, ◌∙◌, subst}
 use mathlib.Core.Bool.{Bool, true, false, ◌&&◌, false≢true}
@@ -16,7 +17,7 @@ use Rattle.base_words.proofs.Tests.{and_yes}
 use Rattle.frame_saves.specs.Saves.{load}
 use Rattle.frame_rules.specs.declared.FrameRules.{FrameRules}
 use Rattle.frame_rules.specs.Helpers.{LawfulFrames}
-use Rattle.frame_dump.specs.Walk.{WalkRefusal, BadAddress, ChainTooLong, ListTooShort, Found, Frames, Refused, Walked, frames, refused, ok_address, prepend, walk_from, max_frames, walk, fitted, walk_into, found_in, counted}
+use Rattle.frame_dump.specs.Walk.{WalkRefusal, BadAddress, ChainTooLong, ListTooShort, Walked, frames, refused, ok_address, prepend, walk_from, max_frames, walk, fitted, walk_into, found_in, counted}
 
 -- a word has a byte at least
 pub word_some : (k : FrameRules) → LawfulFrames k → 0 < k.word
@@ -59,7 +60,7 @@ walk-out k b l zero least a h = refl
 walk-out k b l (suc n) least a h = absurd (omega arith)
 
 pub counted-prepend : (c a : ℕ) (w : Walked) → counted c (prepend a w) ≡ counted (c + 1) w
-counted-prepend c a (frames xs) = let e : c + suc (length xs) ≡ c + 1 + length xs = omega arith in ap Frames e
+counted-prepend c a (frames xs) = let e : c + suc (length xs) ≡ c + 1 + length xs = omega arith in ap Ok e
 counted-prepend c a (refused r) = refl
 
 -- ---- the frames that were found
@@ -86,19 +87,19 @@ follow (suc n) k b l least a = go (ok_address k b (length l) least a) refl (eqb 
     go false e last f = tt
 
 -- what a count says of the walk
-abbrev tag : Found → ℕ
-tag (Frames m) = 0
-tag (Refused r) = 1
+abbrev tag : Result ℕ WalkRefusal → ℕ
+tag (Ok m) = 0
+tag (Err r) = 1
 
-pub counted-length : (w : Walked) (n : ℕ) → counted 0 w ≡ Frames n → length (found_in w) ≡ n
+pub counted-length : (w : Walked) (n : ℕ) → counted 0 w ≡ Ok n → length (found_in w) ≡ n
 counted-length (frames xs) n e = let z : 0 + length xs ≡ n = cc in omega arith
 counted-length (refused r) n e = absurd (let z : ◌≡◌ {A = ℕ} 1 0 = ap tag e in omega arith)
 
-counted-frames : (w : Walked) (n : ℕ) → counted 0 w ≡ Frames n → w ≡ frames (found_in w)
+counted-frames : (w : Walked) (n : ℕ) → counted 0 w ≡ Ok n → w ≡ frames (found_in w)
 counted-frames (frames xs) n e = refl
 counted-frames (refused r) n e = absurd (let z : ◌≡◌ {A = ℕ} 1 0 = ap tag e in omega arith)
 
-counted-refused : (w : Walked) (r : WalkRefusal) → counted 0 w ≡ Refused r → w ≡ refused r
+counted-refused : (w : Walked) (r : WalkRefusal) → counted 0 w ≡ Err r → w ≡ refused r
 counted-refused (frames xs) r e = absurd (let z : ◌≡◌ {A = ℕ} 0 1 = ap tag e in omega arith)
 counted-refused (refused x) r e = let a : x ≡ r = cc in rw a
 
@@ -114,10 +115,10 @@ module _ (k : FrameRules) (b : ℕ) (l : List ℕ) (p m : ℕ) where
     unfolding walk_into walk
     walked = rw (le-leb (b + length l) (2 ^ 64 - 1) h)
 
-    pub into-refused : (r : WalkRefusal) → counted 0 (walk_from max_frames k b l 0 p) ≡ Refused r → walk_into k b l p m ≡ refused r
+    pub into-refused : (r : WalkRefusal) → counted 0 (walk_from max_frames k b l 0 p) ≡ Err r → walk_into k b l p m ≡ refused r
     into-refused r e = walked ∙ ap (fitted m) (counted-refused (walk_from max_frames k b l 0 p) r e)
 
-    module _ (n : ℕ) (e : counted 0 (walk_from max_frames k b l 0 p) ≡ Frames n) where
+    module _ (n : ℕ) (e : counted 0 (walk_from max_frames k b l 0 p) ≡ Ok n) where
       fitted-is : walk_into k b l p m ≡ pick (leb (length (found_in (walk_from max_frames k b l 0 p))) m) (frames (found_in (walk_from max_frames k b l 0 p))) (refused ListTooShort)
       fitted-is = walked ∙ ap (fitted m) (counted-frames (walk_from max_frames k b l 0 p) n e)
 

@@ -1,14 +1,12 @@
 -- The frame addresses of a dump, found by following its back chain. Document 02, No. 13. The dump l has its first byte at the address b; addresses are integers without wrap.
 -- Assumes nothing.
-use Rattle.std.specs.Prelude.{ℕ, zero, suc, ◌+◌, ◌-◌, ◌%◌, ◌^◌, Bool, ◌&&◌, List, [], ◌∷◌, length, leb, eqb}
+use Rattle.std.specs.Prelude.{ℕ, zero, suc, ◌+◌, ◌-◌, ◌%◌, ◌^◌, Bool, ◌&&◌, List, [], ◌∷◌, length, leb, eqb, Result, Ok, Err}
 use Rattle.base_words.specs.Basics.{pick}
 use Rattle.base_words.specs.Splice.{splice}
 use Rattle.frame_saves.specs.Saves.{load}
 use Rattle.frame_rules.specs.declared.FrameRules.{FrameRules}
 pub use Rattle.frame_dump.specs.declared.WalkRefusal.{WalkRefusal}
 pub use Rattle.frame_dump.specs.declared.WalkRefusal.TheVariants.{BadAddress, ChainTooLong, ListTooShort}
-pub use Rattle.frame_dump.specs.declared.Found.{Found}
-pub use Rattle.frame_dump.specs.declared.Found.TheVariants.{Frames, Refused}
 
 -- the frame addresses in walking order, or why there are none
 pub data Walked : Type 0 where
@@ -57,9 +55,9 @@ found_in (frames xs) = xs
 found_in (refused r) = []
 
 -- "its count is returned", with c found before
-abbrev pub counted : ℕ → Walked → Found
-counted c (frames xs) = Frames (c + length xs)
-counted c (refused r) = Refused r
+abbrev pub counted : ℕ → Walked → Result ℕ WalkRefusal
+counted c (frames xs) = Ok (c + length xs)
+counted c (refused r) = Err r
 
 -- "The list is written to a lent slice of 64-bit numbers; it goes in walking order": the slice l after the walk. Numbers past the list stay, and all do where it is refused.
 abbrev pub frames_listed : Walked → List ℕ → List ℕ

@@ -6,7 +6,7 @@ ghost use Rattle.std.specs.Prelude.{◌≡◌};
 ghost use Rattle.frame_dump.specs.Walk.{walk_refusal_number, refusal_place};
 
 // Why a walk is refused.
-#[derive(Clone, Copy)]
+#[derive(Clone, Copy, Debug, PartialEq, Eq)]
 pub enum WalkRefusal {
     // This address is that of no frame after the one before, or the dump from this base on ends past the highest address.
     BadAddress(u64),
@@ -16,30 +16,25 @@ pub enum WalkRefusal {
     ListTooShort,
 }
 
-// What a walk found: how many frames, or why it is refused.
-#[derive(Clone, Copy)]
-pub enum Found {
-    Frames(usize),
-    Refused(WalkRefusal),
-}
+// Document 02's number of a refusal.
+impl From<WalkRefusal> for u64 {
+    ghost from_gives = { λ r n. n ≡ walk_refusal_number r };
 
-// Document 02's number of a refusal, and its place.
-pub fn walk_refusal_number(r: WalkRefusal) -> u64
-    ensures { result ≡ walk_refusal_number r }
-{
-    match r {
-        WalkRefusal::BadAddress(_) => 30,
-        WalkRefusal::ChainTooLong => 31,
-        WalkRefusal::ListTooShort => 32,
+    fn from(r: WalkRefusal) -> u64 {
+        match r {
+            WalkRefusal::BadAddress(_) => 30,
+            WalkRefusal::ChainTooLong => 31,
+            WalkRefusal::ListTooShort => 32,
+        }
     }
 }
 
+// Its place.
 pub fn refusal_place(r: WalkRefusal) -> u64
     ensures { result ≡ refusal_place r }
 {
     match r {
         WalkRefusal::BadAddress(a) => a,
-        WalkRefusal::ChainTooLong => 0,
-        WalkRefusal::ListTooShort => 0,
+        WalkRefusal::ChainTooLong | WalkRefusal::ListTooShort => 0,
     }
 }

@@ -14,7 +14,7 @@ use Rattle.frame_rules.specs.Rules.{rules}
 use Rattle.frame_rules.specs.Helpers.{LawfulFrames}
 use Rattle.frame_rules.proofs.Conventions.{lawful}
 use Rattle.frame_rules.proofs.Places.{limit-64}
-use Rattle.frame_machine.specs.declared.FrameAnswer.TheVariants.{Accepted}
+use Rattle.std.specs.Prelude.{Ok}
 use Rattle.frame_machine.specs.Machine.{stack_pointer, start_outcome}
 use Rattle.frame_machine.proofs.States.{memory-yes}
 use Rattle.frame_word_layout.specs.Words.{machine_words, registers_words, registers_in}
@@ -72,7 +72,7 @@ run-keeps k law (c ∷ cs) w os m p i =
     })
 
 -- an accepted start has it, with no enter open
-start-kept : (c : Convention) (b : ℕ) (l rs : List ℕ) → WordsFit registers_words rs → (start_outcome c b (length l) (registers_in rs 0)).answer ≡ Accepted
+start-kept : (c : Convention) (b : ℕ) (l rs : List ℕ) → WordsFit registers_words rs → (start_outcome c b (length l) (registers_in rs 0)).answer ≡ Ok tt
     → Kept (rules c) [] (fresh c b l rs) (pointer_in (rules c) (fresh c b l rs))
 unfolding start_outcome
 start-kept c b l rs h e = record {

@@ -6,7 +6,7 @@ ghost use Rattle.base_words.specs.Splice.{splice};
 ghost use Rattle.frame_rules.specs.Helpers.{LawfulFrames};
 ghost use Rattle.frame_dump.specs.Walk.{ok_address, walk_from, max_frames, walk_into, found_in, counted, frames_listed};
 
-use frame_dump::{Found, WalkRefusal};
+use frame_dump::WalkRefusal;
 use frame_rules::FrameRules;
 
 // The most frames that a walk finds.
@@ -34,7 +34,7 @@ fn address_ok(k: FrameRules, base: u64, n: usize, least: u64, a: u64) -> bool
 }
 
 // How many frames a walk finds, or why it is refused.
-fn count(memory: &[u8], k: FrameRules, base: u64, pointer: u64) -> Found
+fn count(memory: &[u8], k: FrameRules, base: u64, pointer: u64) -> Result<usize, WalkRefusal>
     requires { (LawfulFrames k) × (base + length memory.now ≤ 2 ^ 64 - 1) }
     ensures { result ≡ counted 0 (walk_from max_frames k base memory.now 0 pointer) }
 {
@@ -43,56 +43,56 @@ fn count(memory: &[u8], k: FrameRules, base: u64, pointer: u64) -> Found
     let mut least: u64 = 0;
     let mut found: usize = 0;
     let mut left: usize = MAX_FRAMES;
+    // It counts down, as the definition does; what it has left to find is what the proof needs.
     while 0 < left {
         left -= 1;
         if !address_ok(k, base, n, least, a) {
-            return Found::Refused(WalkRefusal::BadAddress(a));
+            return Err(WalkRefusal::BadAddress(a));
         }
         found += 1;
         let next = base_words::load(memory, (a - base) as usize, k.word);
         if next == 0 {
-            return Found::Frames(found);
+            return Ok(found);
         }
         least = a + 1;
         a = next;
     }
-    Found::Refused(WalkRefusal::ChainTooLong)
+    Err(WalkRefusal::ChainTooLong)
 }
 
 // The addresses of the n frames that a walk finds, over the first numbers of `list`.
 fn put(memory: &[u8], k: FrameRules, base: u64, pointer: u64, list: &mut [u64], n: usize)
     requires lawful_frames { (LawfulFrames k) × (base + length memory.now ≤ 2 ^ 64 - 1) × (n ≤ length list.old) }
-    requires pointer_value { counted 0 (walk_from max_frames k base memory.now 0 pointer) ≡ Found.Frames n }
+    requires pointer_value { counted 0 (walk_from max_frames k base memory.now 0 pointer) ≡ Ok n }
     ensures { list.new ≡ splice list.old 0 (found_in (walk_from max_frames k base memory.now 0 pointer)) }
 {
     let mut a = pointer;
-    let mut i: usize = 0;
-    while i < n {
+    for i in 0..n {
         list[i] = a;
         a = base_words::load(memory, (a - base) as usize, k.word);
-        i += 1;
     }
 }
 
 // The walk of a dump from a stack pointer, into the lent list; nothing is written where it is refused.
-pub fn walk(memory: &[u8], k: FrameRules, base: u64, pointer: u64, list: &mut [u64]) -> Found
+pub fn walk(
+    memory: &[u8],
+    k: FrameRules,
+    base: u64,
+    pointer: u64,
+    list: &mut [u64],
+) -> Result<usize, WalkRefusal>
     requires { LawfulFrames k }
     ensures value { result ≡ counted 0 (walk_into k base memory.now pointer (length list.old)) }
     ensures list_after { list.new ≡ frames_listed (walk_into k base memory.now pointer (length list.old)) list.old }
 {
     let length = memory.len();
     if 18446744073709551615 - (length as u64) < base {
-        return Found::Refused(WalkRefusal::BadAddress(base));
+        return Err(WalkRefusal::BadAddress(base));
     }
-    let c = count(memory, k, base, pointer);
-    match c {
-        Found::Refused(r) => Found::Refused(r),
-        Found::Frames(n) => {
-            if list.len() < n {
-                return Found::Refused(WalkRefusal::ListTooShort);
-            }
-            put(memory, k, base, pointer, list, n);
-            Found::Frames(n)
-        }
+    let n = count(memory, k, base, pointer)?;
+    if list.len() < n {
+        return Err(WalkRefusal::ListTooShort);
     }
+    put(memory, k, base, pointer, list, n);
+    Ok(n)
 }

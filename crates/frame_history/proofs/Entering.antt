@@ -21,7 +21,7 @@ use Rattle.frame_rules.specs.Frames.{no_frame, with_pointer, below, frame_size, 
 use Rattle.frame_rules.specs.Helpers.{LawfulFrames}
 use Rattle.frame_rules.proofs.Conventions.{pointer-unpreserved}
 use Rattle.frame_rules.proofs.Places.{solid-chain, below-reach, chain-in, ascending}
-use Rattle.frame_machine.specs.declared.FrameAnswer.TheVariants.{Accepted}
+use Rattle.std.specs.Prelude.{Ok}
 use Rattle.frame_machine.specs.declared.State.{State}
 use Rattle.frame_machine.specs.Machine.{stack_pointer, offset, frame_at, ok_frames, sizes, enter_answer, entered, entered_memory}
 use Rattle.frame_machine.specs.Helpers.{CanEnter}
@@ -133,7 +133,7 @@ module _ (k : FrameRules) (law : LawfulFrames k) (m : Machine) (f : Frame) (b : 
         bytes = λ c p q r. all-outside vs l₁ c q ∙ store-above l (offset k s - frame_size k f) (chain_width k f) (stack_pointer k s) c (omega (arith, under));
       }
 
-pub enter-keeps : (k : FrameRules) → LawfulFrames k → (os : List OpenEnter) (m : Machine) (f : Frame) → Invariant k os m → enter_answer k m.state (length m.memory) f ≡ Accepted
+pub enter-keeps : (k : FrameRules) → LawfulFrames k → (os : List OpenEnter) (m : Machine) (f : Frame) → Invariant k os m → enter_answer k m.state (length m.memory) f ≡ Ok tt
     → Invariant k (record { before = m; request = f } ∷ os) (record { state = entered k m.state f; memory = entered_memory k m.state m.memory f })
 enter-keeps k law os m f i e =
     let b = base-of k os m i in

@@ -24,8 +24,8 @@ use Rattle.frame_rules.specs.Frames.{with_pointer, below, frame_size, chain_widt
 use Rattle.frame_rules.specs.Helpers.{LawfulFrames}
 use Rattle.frame_rules.proofs.Conventions.{lawful}
 use Rattle.frame_rules.proofs.Places.{leaf-size, size-parts, below-reach, ascending}
-use Rattle.frame_machine.specs.declared.FrameAnswer.{FrameAnswer}
-use Rattle.frame_machine.specs.declared.FrameAnswer.TheVariants.{Accepted, Refused}
+use Rattle.frame_machine.specs.Answers.{FrameAnswer}
+use Rattle.std.specs.Prelude.{Ok, Err}
 use Rattle.frame_machine.specs.Machine.{stack_pointer, offset, top, caller, state_tests, outgoing_from, writable_address, write_memory_answer, written_memory, entered, entered_memory, start_outcome, enter_outcome, enter_memory, write_register_outcome, write_memory_outcome, write_memory_memory, leave_outcome}
 use Rattle.frame_machine.specs.Helpers.{CanEnter}
 use Rattle.frame_machine.proofs.Judging.{holds-yes, judge-both}
@@ -65,7 +65,7 @@ enter-untouched k law m f b y c p =
 leaf-outgoing : (k : FrameRules) (f : Frame) (o : ℕ) → f.leaf ≡ true → outgoing_from k f o ≡ o - k.floor
 leaf-outgoing k f o e = rw e
 
-write-untouched : (k : FrameRules) (m : Machine) (a : ℕ) (bs : List ℕ) → write_memory_answer k m.state (length m.memory) a (length bs) ≡ Accepted
+write-untouched : (k : FrameRules) (m : Machine) (a : ℕ) (bs : List ℕ) → write_memory_answer k m.state (length m.memory) a (length bs) ≡ Ok tt
     → Untouched k (write_memory a bs) m (record { state = m.state; memory = written_memory m.state m.memory a bs })
 unfolding write_memory_answer written_memory writable_address
 write-untouched k m a bs e c p =
@@ -89,13 +89,13 @@ write-untouched k m a bs e c p =
 module _ (k : FrameRules) (law : LawfulFrames k) where
   untouched : (c : Call) (os : List OpenEnter) (m : Machine) → Invariant k os m → (a : FrameAnswer) → answer c m ≡ a → Untouched k c m (after c m)
   unfolding enter_outcome enter_memory write_register_outcome write_memory_outcome write_memory_memory leave_outcome
-  untouched (enter f) os m i Accepted e =
+  untouched (enter f) os m i (Ok tt) e =
       let b = base-of k os m i in
       rw (e, b.rules) (enter-untouched k law m f b (enter-yes k m.state (length m.memory) f (rw b.rules at e)).1)
-  untouched (enter f) os m i (Refused x) e = rw e (λ b p. inl refl)
+  untouched (enter f) os m i (Err x) e = rw e (λ b p. inl refl)
   untouched (write_register b n v) os m i a e = λ b p. inl refl
-  untouched (write_memory a bs) os m i Accepted e = rw e (write-untouched k m a bs (rw (base-of k os m i).rules at e))
-  untouched (write_memory a bs) os m i (Refused x) e = rw e (λ b p. inl refl)
+  untouched (write_memory a bs) os m i (Ok tt) e = rw e (write-untouched k m a bs (rw (base-of k os m i).rules at e))
+  untouched (write_memory a bs) os m i (Err x) e = rw e (λ b p. inl refl)
   untouched leave os m i a e = λ b p. inl refl
 
   floor-holds : (cs : List Call) → CallsFit cs → (os : List OpenEnter) (m : Machine) → Invariant k os m → FloorHolds k cs m

@@ -23,7 +23,7 @@ use Rattle.frame_rules.specs.Helpers.{LawfulFrames}
 use Rattle.frame_rules.proofs.Conventions.{pointer-unpreserved, before-lt}
 use Rattle.frame_rules.proofs.Places.{ranges, solid-chain, gpr-end, fpr-end, room_for, ascending, chain-outside}
 use Rattle.frame_rules.proofs.Restoring.{gpr-held, fpr-held, link-held, lr-fit, cr-fit, cr-held, return_held}
-use Rattle.frame_machine.specs.declared.FrameAnswer.TheVariants.{Accepted, Refused}
+use Rattle.std.specs.Prelude.{Ok, Err}
 use Rattle.frame_machine.specs.declared.FrameRefusal.TheVariants.{NothingEntered}
 use Rattle.frame_machine.specs.declared.State.{State}
 use Rattle.frame_machine.specs.Answers.{judge}
@@ -35,7 +35,7 @@ use Rattle.frame_history.specs.Preserved.{OpenEnter, Preserved, RegistersFit}
 use Rattle.frame_history.proofs.Invariant.{fit_small, Base, Invariant, base-of, top-is, RestsAll, Keeps, room-below, saves-below, invariant-keeps}
 
 -- with nothing open, refusal 22
-pub leave-refused : (k : FrameRules) (m : Machine) → Invariant k [] m → leave_answer k m.state m.memory ≡ Refused NothingEntered
+pub leave-refused : (k : FrameRules) (m : Machine) → Invariant k [] m → leave_answer k m.state m.memory ≡ Err NothingEntered
 unfolding leave_answer judge
 leave-refused k m i = judge-next (state_tests k m.state (length m.memory)) (leave_tests k m.state m.memory) (state-accepted k m.state (length m.memory) i.0.sound) ∙ rw i.1
 
@@ -94,7 +94,7 @@ module _ (k : FrameRules) (law : LawfulFrames k) (o : OpenEnter) (os : List Open
   gpr-least = (ranges k o.request i.1.request).gpr.1
 
   -- with an enter open, no refusal
-  accepted : leave_answer k s m.memory ≡ Accepted
+  accepted : leave_answer k s m.memory ≡ Ok tt
   unfolding leave_answer judge
   accepted =
       let deep : ltb 0 s.depth ≡ true = lt-ltb 0 s.depth (omega (arith, i.1.deep)) in
@@ -236,7 +236,7 @@ module _ (k : FrameRules) (law : LawfulFrames k) (o : OpenEnter) (os : List Open
   invariant-left : Invariant k os m'
   invariant-left = invariant-keeps k law os o.before m' i.2 base-left keeps-left
 
-pub leave-accepted : (k : FrameRules) → LawfulFrames k → (o : OpenEnter) (os : List OpenEnter) (m : Machine) → Invariant k (o ∷ os) m → leave_answer k m.state m.memory ≡ Accepted
+pub leave-accepted : (k : FrameRules) → LawfulFrames k → (o : OpenEnter) (os : List OpenEnter) (m : Machine) → Invariant k (o ∷ os) m → leave_answer k m.state m.memory ≡ Ok tt
 leave-accepted k law o os m i = accepted k law o os m i
 
 pub leave-keeps : (k : FrameRules) → LawfulFrames k → (o : OpenEnter) (os : List OpenEnter) (m : Machine) → Invariant k (o ∷ os) m

@@ -19,8 +19,8 @@ use Rattle.frame_rules.specs.Frames.{with_pointer, lowered, cleared}
 use Rattle.frame_rules.specs.Helpers.{LawfulFrames}
 use Rattle.frame_rules.proofs.Halves.{lowered-length, lowered-fit}
 use Rattle.frame_rules.proofs.Conventions.{lawful}
-use Rattle.frame_machine.specs.declared.FrameAnswer.{FrameAnswer}
-use Rattle.frame_machine.specs.declared.FrameAnswer.TheVariants.{Accepted, Refused}
+use Rattle.frame_machine.specs.Answers.{FrameAnswer}
+use Rattle.std.specs.Prelude.{Ok, Err}
 use Rattle.frame_machine.specs.Machine.{ok_memory, ok_frames, sizes, start_answer, started, started_memory, start_outcome, start_memory, enter_outcome, enter_memory, write_register_outcome, write_memory_outcome, write_memory_memory, leave_outcome}
 use Rattle.frame_machine.proofs.Judging.{never, holds-yes}
 use Rattle.frame_machine.proofs.States.{memory-yes}
@@ -37,19 +37,19 @@ module _ (k : FrameRules) (law : LawfulFrames k) where
   pub step : (c : Call) → CallFits c → (os : List OpenEnter) (m : Machine) → Invariant k os m → (a : FrameAnswer) → answer c m ≡ a
       → CallHolds k c a os (after c m) × Invariant k (open_after c a m os) (after c m)
   unfolding enter_outcome enter_memory write_register_outcome write_memory_outcome write_memory_memory leave_outcome
-  step (enter f) w os m i Accepted e =
+  step (enter f) w os m i (Ok tt) e =
       let r = (base-of k os m i).rules in (tt, rw (e, r) (enter-keeps k law os m f i (rw r at e)))
-  step (enter f) w os m i (Refused x) e = (tt, rw e i)
-  step (write_register b n v) w os m i Accepted e =
+  step (enter f) w os m i (Err x) e = (tt, rw e i)
+  step (write_register b n v) w os m i (Ok tt) e =
       let r = (base-of k os m i).rules in (tt, rw e (write-register-keeps k law os m b n v w i (rw r at e)))
-  step (write_register b n v) w os m i (Refused x) e = (tt, rw e i)
-  step (write_memory a bs) w os m i Accepted e =
+  step (write_register b n v) w os m i (Err x) e = (tt, rw e i)
+  step (write_memory a bs) w os m i (Ok tt) e =
       let r = (base-of k os m i).rules in (tt, rw e (write-memory-keeps k law os m a bs i (rw r at e)))
-  step (write_memory a bs) w os m i (Refused x) e = (tt, rw e i)
-  step leave w [] m i Accepted e = absurd (never _ (sym (leave-refused k m i) ∙ rw i.0.rules at e))
-  step leave w [] m i (Refused x) e = (tt, rw e i)
-  step leave w (o ∷ os) m i Accepted e = let r = i.0.rules in rw (e, r) (leave-keeps k law o os m i)
-  step leave w (o ∷ os) m i (Refused x) e = absurd (never x (sym (rw i.0.rules at e) ∙ leave-accepted k law o os m i))
+  step (write_memory a bs) w os m i (Err x) e = (tt, rw e i)
+  step leave w [] m i (Ok tt) e = absurd (never _ (sym (leave-refused k m i) ∙ rw i.0.rules at e))
+  step leave w [] m i (Err x) e = (tt, rw e i)
+  step leave w (o ∷ os) m i (Ok tt) e = let r = i.0.rules in rw (e, r) (leave-keeps k law o os m i)
+  step leave w (o ∷ os) m i (Err x) e = absurd (never x (sym (rw i.0.rules at e) ∙ leave-accepted k law o os m i))
 
   -- ---- a list of calls
 
@@ -62,7 +62,7 @@ module _ (k : FrameRules) (law : LawfulFrames k) where
 
 -- ---- the start
 
-module _ (c : Convention) (b : ℕ) (l : List ℕ) (r : Registers) (fit : RegistersFit 8 r) (e : start_answer c b (length l) ≡ Accepted) where
+module _ (c : Convention) (b : ℕ) (l : List ℕ) (r : Registers) (fit : RegistersFit 8 r) (e : start_answer c b (length l) ≡ Ok tt) where
   abbrev k : FrameRules
   k = rules c
 

@@ -16,13 +16,13 @@ use Rattle.base_words.proofs.Fitting.{fit-set}
 use Rattle.frame_rules.specs.declared.FrameRules.{FrameRules}
 use Rattle.frame_rules.specs.declared.Registers.{Registers}
 use Rattle.frame_rules.specs.declared.RegisterBank.{RegisterBank}
-use Rattle.frame_rules.specs.declared.RegisterBank.TheVariants.{General, Floating, Link, ConditionField, None}
+use Rattle.frame_rules.specs.declared.RegisterBank.TheVariants.{General, Floating, Link, ConditionField}
 use Rattle.frame_rules.specs.Frames.{first_gpr_of, first_fpr_of, start_frame, has_condition, outgoing_length, below, frame_size, chain_width, bank_of, writable, writable_field, writable_register, with_register}
 use Rattle.frame_rules.specs.Helpers.{LawfulFrames}
 use Rattle.frame_rules.proofs.Conventions.{writable_apart, pointer-unwritable}
 use Rattle.frame_rules.proofs.Places.{ranges, leaf-chain, solid-chain}
 use Rattle.frame_rules.proofs.Writing.{field-number, field_fit, field-preserves}
-use Rattle.frame_machine.specs.declared.FrameAnswer.TheVariants.{Accepted}
+use Rattle.std.specs.Prelude.{Ok, Option, Some, None}
 use Rattle.frame_machine.specs.declared.State.{State}
 use Rattle.frame_machine.specs.Machine.{stack_pointer, offset, top_frame, caller_frame, state_tests, outgoing_from, writable_bytes, writable_address, write_register_answer, write_memory_answer, written_register, written_memory}
 use Rattle.frame_machine.proofs.Areas.{solid-outgoing, outgoing-le, locals-le, areas}
@@ -118,12 +118,12 @@ module _ (k : FrameRules) (law : LawfulFrames k) (os : List OpenEnter) (m : Mach
       })
       keeps
 
-  write-general : (n v : ℕ) → v < 2 ^ (8 * k.word) → writable k.gpr (first_gpr_of (caller_of k os)) n ≡ true → Invariant k os (with (with_register s.registers General n v))
+  write-general : (n v : ℕ) → v < 2 ^ (8 * k.word) → writable k.gpr (first_gpr_of (caller_of k os)) n ≡ true → Invariant k os (with (with_register s.registers (Some General) n v))
   unfolding with_register
   write-general n v w p =
       let same : get_or (set s.registers.gpr n v) k.pointer 0 ≡ stack_pointer k s
       = get_or-set_other s.registers.gpr n k.pointer v 0 (λ q. pointer-unwritable k law (first_gpr_of (caller_of k os)) n (gpr-least k law os m i) p q) in
-      keeps-registers (with_register s.registers General n v)
+      keeps-registers (with_register s.registers (Some General) n v)
       (record {
         gprs = length-set s.registers.gpr n v ∙ b.fit.gprs;
         fprs = b.fit.fprs;
@@ -146,10 +146,10 @@ module _ (k : FrameRules) (law : LawfulFrames k) (os : List OpenEnter) (m : Mach
         rests = rests-same k os (offset k s) m.memory;
       })
 
-  write-floating : (n v : ℕ) → v < 2 ^ 64 → writable k.fpr (first_fpr_of (caller_of k os)) n ≡ true → Invariant k os (with (with_register s.registers Floating n v))
+  write-floating : (n v : ℕ) → v < 2 ^ 64 → writable k.fpr (first_fpr_of (caller_of k os)) n ≡ true → Invariant k os (with (with_register s.registers (Some Floating) n v))
   unfolding with_register
   write-floating n v w p =
-      keeps-registers (with_register s.registers Floating n v)
+      keeps-registers (with_register s.registers (Some Floating) n v)
       (record {
         gprs = b.fit.gprs;
         fprs = length-set s.registers.fpr n v ∙ b.fit.fprs;
@@ -172,10 +172,10 @@ module _ (k : FrameRules) (law : LawfulFrames k) (os : List OpenEnter) (m : Mach
         rests = rests-same k os (offset k s) m.memory;
       })
 
-  write-link : (n v : ℕ) → v < 2 ^ (8 * k.word) → (caller_of k os).leaf ≡ false → Invariant k os (with (with_register s.registers Link n v))
+  write-link : (n v : ℕ) → v < 2 ^ (8 * k.word) → (caller_of k os).leaf ≡ false → Invariant k os (with (with_register s.registers (Some Link) n v))
   unfolding with_register
   write-link n v w solid =
-      keeps-registers (with_register s.registers Link n v)
+      keeps-registers (with_register s.registers (Some Link) n v)
       (record { gprs = b.fit.gprs; fprs = b.fit.fprs; gpr = b.fit.gpr; fpr = b.fit.fpr; lr = w; cr = b.fit.cr })
       refl
       (record {
@@ -191,11 +191,11 @@ module _ (k : FrameRules) (law : LawfulFrames k) (os : List OpenEnter) (m : Mach
         rests = rests-same k os (offset k s) m.memory;
       })
 
-  write-field : (n v : ℕ) → writable_field k (caller_of k os) n v ≡ true → Invariant k os (with (with_register s.registers ConditionField n v))
+  write-field : (n v : ℕ) → writable_field k (caller_of k os) n v ≡ true → Invariant k os (with (with_register s.registers (Some ConditionField) n v))
   unfolding with_register
   write-field n v p =
       let q = field-number k (caller_of k os) n v p in
-      keeps-registers (with_register s.registers ConditionField n v)
+      keeps-registers (with_register s.registers (Some ConditionField) n v)
       (record { gprs = b.fit.gprs; fprs = b.fit.fprs; gpr = b.fit.gpr; fpr = b.fit.fpr; lr = b.fit.lr; cr = field_fit n s.registers.cr v q.1 b.fit.cr q.0 })
       refl
       (record {
@@ -212,20 +212,20 @@ module _ (k : FrameRules) (law : LawfulFrames k) (os : List OpenEnter) (m : Mach
       })
 
   -- a value in a general register or LR fits its word, or the write is refused
-  write-bank : (c : RegisterBank) (n v : ℕ) → v < 2 ^ 64 → writable_register k (caller_of k os) c n v ≡ true → Invariant k os (with (with_register s.registers c n v))
+  write-bank : (c : Option RegisterBank) (n v : ℕ) → v < 2 ^ 64 → writable_register k (caller_of k os) c n v ≡ true → Invariant k os (with (with_register s.registers c n v))
   unfolding writable_register
-  write-bank General n v x p =
+  write-bank (Some General) n v x p =
       let q = and_yes (writable k.gpr (first_gpr_of (caller_of k os)) n) _ p in
       write-general n v (omega (arith, leb-true v k.limit q.1, law.limit)) q.0
-  write-bank Floating n v x p = write-floating n v x p
-  write-bank Link n v x p =
+  write-bank (Some Floating) n v x p = write-floating n v x p
+  write-bank (Some Link) n v x p =
       let q = and_yes (not (caller_of k os).leaf) _ (and_yes (has_condition k.linkage) _ p).1 in
       write-link n v (omega (arith, leb-true v k.limit q.1, law.limit)) (not_yes (caller_of k os).leaf q.0)
-  write-bank ConditionField n v x p = write-field n v p
+  write-bank (Some ConditionField) n v x p = write-field n v p
   write-bank None n v x p = absurd (false≢true p)
 
 pub write-register-keeps : (k : FrameRules) → LawfulFrames k → (os : List OpenEnter) (m : Machine) (c n v : ℕ) → v < 2 ^ 64 → Invariant k os m
-    → write_register_answer k m.state (length m.memory) c n v ≡ Accepted → Invariant k os (record { state = written_register m.state c n v; memory = m.memory })
+    → write_register_answer k m.state (length m.memory) c n v ≡ Ok tt → Invariant k os (record { state = written_register m.state c n v; memory = m.memory })
 unfolding write_register_answer written_register
 write-register-keeps k law os m c n v x i e =
     let s = m.state in
@@ -233,7 +233,7 @@ write-register-keeps k law os m c n v x i e =
     write-bank k law os m i (bank_of c) n v x (rw (top-is k os m i) at (holds-yes _ _ t.1).0)
 
 pub write-memory-keeps : (k : FrameRules) → LawfulFrames k → (os : List OpenEnter) (m : Machine) (a : ℕ) (bs : List ℕ) → Invariant k os m
-    → write_memory_answer k m.state (length m.memory) a (length bs) ≡ Accepted → Invariant k os (record { state = m.state; memory = written_memory m.state m.memory a bs })
+    → write_memory_answer k m.state (length m.memory) a (length bs) ≡ Ok tt → Invariant k os (record { state = m.state; memory = written_memory m.state m.memory a bs })
 unfolding write_memory_answer written_memory writable_address
 write-memory-keeps k law os m a bs i e =
     let s = m.state in

@@ -6,7 +6,7 @@ use Rattle.frame_rules.specs.declared.Frame.{Frame}
 use Rattle.frame_rules.specs.declared.Registers.{Registers}
 use Rattle.frame_machine.specs.declared.State.{State}
 use Rattle.frame_machine.specs.declared.FrameOutcome.{FrameOutcome}
-use Rattle.frame_machine.specs.declared.FrameAnswer.{FrameAnswer}
+use Rattle.frame_machine.specs.Answers.{FrameAnswer}
 use Rattle.frame_machine.specs.Machine.{start_outcome, start_memory, enter_outcome, enter_memory, write_register_outcome, write_memory_outcome, write_memory_memory, leave_outcome}
 
 -- any enter, write or leave: of a request; of a bank, a number and a value; of an address and bytes

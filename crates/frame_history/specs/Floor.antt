@@ -1,13 +1,12 @@
 -- Document 02, No. 8: "Interrupt code on the PowerPC machines trusts the room under the stack pointer"; No. 9: "The leaf may write the bytes of the floor area of No. 8
 -- that aren't its saves". `KeepsFloorOfStates` is the claim for every list of the machine's own calls from every accepted start; `floor-kept` in proofs/Floor.antt proves it.
 -- The crate word_history has the claim of the calls that C makes. Assumes nothing.
-use Rattle.std.specs.Prelude.{ℕ, ◌+◌, ◌≤◌, ◌<◌, ◌≡◌, ◌⊎◌, true, List, [], ◌∷◌, get_or, length}
+use Rattle.std.specs.Prelude.{ℕ, ◌+◌, ◌≤◌, ◌<◌, ◌≡◌, ◌⊎◌, true, List, [], ◌∷◌, get_or, length, Ok}
 use Rattle.base_conventions.specs.declared.Convention.{Convention}
 use Rattle.frame_rules.specs.declared.FrameRules.{FrameRules}
 use Rattle.frame_rules.specs.declared.Registers.{Registers}
 use Rattle.frame_rules.specs.Rules.{rules}
 use Rattle.frame_rules.specs.Frames.{below}
-use Rattle.frame_machine.specs.declared.FrameAnswer.TheVariants.{Accepted}
 use Rattle.frame_machine.specs.Machine.{stack_pointer, offset, top, start_outcome}
 use Rattle.frame_history.specs.Calls.{Call, enter, write_register, write_memory, leave, Machine, after, fresh}
 use Rattle.frame_history.specs.Preserved.{RegistersFit, CallsFit}
@@ -36,5 +35,5 @@ FloorHolds k (c ∷ cs) m = FloorInside k m × Untouched k c m (after c m) × Fl
 
 -- `RegistersFit` and `CallsFit` restrict nothing: the types of the program's numbers are so.
 abbrev pub KeepsFloorOfStates : Type 0
-KeepsFloorOfStates = (c : Convention) (b : ℕ) (l : List ℕ) (r : Registers) → RegistersFit 8 r → (start_outcome c b (length l) r).answer ≡ Accepted → (cs : List Call) → CallsFit cs
+KeepsFloorOfStates = (c : Convention) (b : ℕ) (l : List ℕ) (r : Registers) → RegistersFit 8 r → (start_outcome c b (length l) r).answer ≡ Ok tt → (cs : List Call) → CallsFit cs
     → FloorHolds (rules c) cs (fresh c b l r)

@@ -1,6 +1,6 @@
 -- Demand 3 of the machine's own calls: "a single claim about the whole list of calls". Document 01, "Frames"; `Demand3OfStates` is the claim with all that it asks for,
 -- of which `calls-hold` in proofs/Theorem.antt is a value. The crate word_history has the claim of the calls that C makes. Assumes nothing.
-use Rattle.std.specs.Prelude.{ℕ, ◌+◌, ◌≤◌, ◌<◌, ◌^◌, ◌*◌, ◌≡◌, ◌⊎◌, true, List, [], ◌∷◌, get_or, length}
+use Rattle.std.specs.Prelude.{ℕ, ◌+◌, ◌≤◌, ◌<◌, ◌^◌, ◌*◌, ◌≡◌, ◌⊎◌, true, List, [], ◌∷◌, get_or, length, Ok, Err}
 use Rattle.base_words.specs.Basics.{All}
 use Rattle.frame_saves.specs.Saves.{Outside}
 use Rattle.base_conventions.specs.declared.Convention.{Convention}
@@ -9,8 +9,7 @@ use Rattle.frame_rules.specs.declared.Frame.{Frame}
 use Rattle.frame_rules.specs.declared.Registers.{Registers}
 use Rattle.frame_rules.specs.Rules.{within, rules}
 use Rattle.frame_rules.specs.Frames.{start_frame, outgoing_length, saves, return_address, preserved_condition}
-use Rattle.frame_machine.specs.declared.FrameAnswer.{FrameAnswer}
-use Rattle.frame_machine.specs.declared.FrameAnswer.TheVariants.{Accepted, Refused}
+use Rattle.frame_machine.specs.Answers.{FrameAnswer}
 use Rattle.frame_machine.specs.Machine.{stack_pointer, offset, start_outcome}
 use Rattle.frame_history.specs.Calls.{Call, enter, write_register, write_memory, leave, Machine, answer, after, fresh}
 
@@ -28,12 +27,12 @@ close_latest (o ∷ os) = os
 -- The open enters after a call, latest first. "An accepted enter is open until an accepted leave closes it; such a leave closes the latest enter still open, and that is
 -- its matching enter. Writes and refused calls open and close nothing."
 abbrev pub open_after : Call → FrameAnswer → Machine → List OpenEnter → List OpenEnter
-open_after (enter f) Accepted m os = record { before = m; request = f } ∷ os
-open_after (enter f) (Refused r) m os = os
+open_after (enter f) (Ok tt) m os = record { before = m; request = f } ∷ os
+open_after (enter f) (Err r) m os = os
 open_after (write_register b n v) a m os = os
 open_after (write_memory at bs) a m os = os
-open_after leave Accepted m os = close_latest os
-open_after leave (Refused r) m os = os
+open_after leave (Ok tt) m os = close_latest os
+open_after leave (Err r) m os = os
 
 -- "The caller is the latest enter still open once that leave is done, or the start if none is"
 abbrev pub caller_of : FrameRules → List OpenEnter → Frame
@@ -58,10 +57,10 @@ pub record Preserved (k : FrameRules) (o : OpenEnter) (os : List OpenEnter) (m :
 
 -- Of a leave with this answer, the enters open before it and the machine after it: it is refused exactly when no enter is open, and preserves where it is accepted.
 abbrev pub LeaveHolds : FrameRules → FrameAnswer → List OpenEnter → Machine → Type 0
-LeaveHolds k (Refused r) [] m = Unit {0}
-LeaveHolds k (Refused r) (o ∷ os) m = ⊥
-LeaveHolds k Accepted [] m = ⊥
-LeaveHolds k Accepted (o ∷ os) m = Preserved k o os m
+LeaveHolds k (Err r) [] m = Unit {0}
+LeaveHolds k (Err r) (o ∷ os) m = ⊥
+LeaveHolds k (Ok tt) [] m = ⊥
+LeaveHolds k (Ok tt) (o ∷ os) m = Preserved k o os m
 
 abbrev pub CallHolds : FrameRules → Call → FrameAnswer → List OpenEnter → Machine → Type 0
 CallHolds k (enter f) a os m = Unit {0}
@@ -100,5 +99,5 @@ CallsFit cs = All CallFits cs
 -- "The start may be handed any registers, base and memory. No enter is open at the start." In each convention, from each accepted start, every list of calls holds.
 -- `RegistersFit` and `CallsFit` restrict nothing: the types of the program's numbers are so.
 abbrev pub Demand3OfStates : Type 0
-Demand3OfStates = (c : Convention) (b : ℕ) (l : List ℕ) (r : Registers) → RegistersFit 8 r → (start_outcome c b (length l) r).answer ≡ Accepted → (cs : List Call) → CallsFit cs
+Demand3OfStates = (c : Convention) (b : ℕ) (l : List ℕ) (r : Registers) → RegistersFit 8 r → (start_outcome c b (length l) r).answer ≡ Ok tt → (cs : List Call) → CallsFit cs
     → Holds (rules c) cs [] (fresh c b l r)

@@ -1,8 +1,8 @@
 -- Small facts that the proofs of the functions cite: the records of a sound state, and where its top frame lies. Assumes nothing.
 use Prim.Native.Nat.{ℕ, zero, suc, ◌+◌, ◌-◌, ◌≤◌, ◌<◌}
 use mathlib.Core.Path.{◌≡◌, refl, sym, ◌∙◌, subst}
-use mathlib.Core.Logic.{⊎_elim}
-use mathlib.Core.Bool.{true, false, not, ◌&&◌}
+use mathlib.Core.Logic.{◌⊎◌, ⊎_elim}
+use mathlib.Core.Bool.{Bool, true, false, not, ◌&&◌}
 use mathlib.Core.List.{List}
 use native.Mathlib.Omega.{arith}
 use lib.ListN.{length}
@@ -33,20 +33,56 @@ frames-read k fs d h e =
     let q = and_yes (not (top_frame k fs (d - 1)).leaf) _ p.1 in
     (p.0, not_yes (top_frame k fs (d - 1)).leaf q.0, q.1)
 
-pub frames-none : (k : FrameRules) (fs : List Frame) (d : ℕ) → d ≤ 0 → ok_frames k fs d ≡ true
+-- each record in range is so, and what is under it is no leaf
+pub frames-each : (k : FrameRules) (fs : List Frame) (n d : ℕ) → ok_frames k fs n ≡ true → d < n → (ok_request k (frame_at fs d) ≡ true) × ((top_frame k fs d).leaf ≡ false)
 unfolding ok_frames
-frames-none k fs zero h = refl
-frames-none k fs (suc d) h = absurd (omega arith)
+frames-each k fs zero d e h = absurd (omega arith)
+frames-each k fs (suc n) d e h =
+    let t = and_yes (ok_request k (frame_at fs n)) _ e in
+    let u = and_yes (not (top_frame k fs n).leaf) _ t.1 in
+    ⊎_elim (λ p. frames-each k fs n d u.1 p) (λ p. let x : d ≡ n = omega arith in rw x ((t.0, not_yes (top_frame k fs n).leaf u.0))) (le-or-lt (suc d) n)
+
+-- a loop over the records: none yet, one more, and one that is refused
+pub frames_begin : (k : FrameRules) (fs : List Frame) → ok_frames k fs 0 ≡ true
+unfolding ok_frames
+frames_begin k fs = refl
+
+pub frames-more : (k : FrameRules) (fs : List Frame) (d : ℕ) → ok_frames k fs d ≡ true → ok_request k (frame_at fs d) ≡ true → (top_frame k fs d).leaf ≡ false
+    → ok_frames k fs (d + 1) ≡ true
+unfolding ok_frames
+frames-more k fs d h e u =
+    let n : d + 1 ≡ suc d = omega arith in
+    rw n (again e u h)
+  where
+    again : ok_request k (frame_at fs d) ≡ true → (top_frame k fs d).leaf ≡ false → ok_frames k fs d ≡ true → ok_frames k fs (suc d) ≡ true
+    again e u h = rw (e, u) h
+
+pub frames-stop : (k : FrameRules) (fs : List Frame) (n d : ℕ) → d < n → (ok_request k (frame_at fs d) ≡ false) ⊎ ((top_frame k fs d).leaf ≡ true) → false ≡ ok_frames k fs n
+frames-stop k fs n d h r = go (ok_frames k fs n) refl
+  where
+    go : (a : Bool) → ok_frames k fs n ≡ a → false ≡ a
+    go false e = refl
+    go true e =
+        let y = frames-each k fs n d e h in
+        ⊎_elim (λ p. sym p ∙ y.0) (λ p. sym (sym p ∙ y.1)) r
 
 pub sizes-down : (k : FrameRules) (fs : List Frame) (d : ℕ) → 0 < d → sizes k fs d ≡ sizes k fs (d - 1) + frame_size k (frame_at fs (d - 1))
 unfolding sizes
 sizes-down k fs zero h = absurd (omega arith)
 sizes-down k fs (suc d) h = let e : suc d - 1 ≡ d = omega arith in rw e
 
-pub sizes-none : (k : FrameRules) (fs : List Frame) (d : ℕ) → d ≤ 0 → sizes k fs d ≡ 0
+pub sizes_begin : (k : FrameRules) (fs : List Frame) → 0 ≡ sizes k fs 0
 unfolding sizes
-sizes-none k fs zero h = refl
-sizes-none k fs (suc d) h = absurd (omega arith)
+sizes_begin k fs = refl
+
+pub sizes-more : (k : FrameRules) (fs : List Frame) (d : ℕ) → sizes k fs (d + 1) ≡ sizes k fs d + frame_size k (frame_at fs d)
+unfolding sizes
+sizes-more k fs d =
+    let n : d + 1 ≡ suc d = omega arith in
+    rw n (again k fs d)
+  where
+    again : (k : FrameRules) (fs : List Frame) (d : ℕ) → sizes k fs (suc d) ≡ sizes k fs d + frame_size k (frame_at fs d)
+    again k fs d = refl
 
 -- ---- the top frame and its caller
 
@@ -74,11 +110,7 @@ caller-some k fs (suc (suc d)) h = let e : suc (suc d) - 2 ≡ d = omega arith i
 
 -- each record of a sound state is in range
 pub frame-request : (k : FrameRules) (fs : List Frame) (d i : ℕ) → ok_frames k fs d ≡ true → i < d → ok_request k (frame_at fs i) ≡ true
-unfolding ok_frames
-frame-request k fs zero i e h = absurd (omega arith)
-frame-request k fs (suc d) i e h =
-    let t = and_yes (ok_request k (frame_at fs d)) _ e in
-    ⊎_elim (λ p. frame-request k fs d i (and_yes (not (top_frame k fs d).leaf) _ t.1).1 p) (λ p. let x : i ≡ d = omega arith in rw x t.0) (le-or-lt (suc i) d)
+frame-request k fs d i e h = (frames-each k fs d i e h).0
 
 outgoing-small : (k : FrameRules) → LawfulFrames k → (f : Frame) → ok_request k f ≡ true → outgoing_length k f ≤ max_outgoing + 256
 outgoing-small k law f e = omega (arith, (ranges k f e).outgoing, law.least)

@@ -10,45 +10,46 @@ use Rattle.frame_rules.specs.declared.FrameRules.{FrameRules}
 use Rattle.frame_rules.specs.declared.Registers.{Registers}
 use Rattle.frame_rules.specs.Rules.{rules}
 use Rattle.frame_rules.specs.Frames.{no_frame, frame_size, restored, bank_of, with_register}
-use Rattle.frame_machine.specs.Answers.{Accepted, Refused, FrameRefusal, BadMemory, judge}
+use Rattle.frame_machine.specs.Answers.{FrameRefusal, BadMemory, judge}
+use Rattle.std.specs.Prelude.{Ok, Err}
 use Rattle.frame_machine.specs.Machine.{State, state_rules, stack_pointer, offset, top, ok_memory, start_answer, started, started_memory, not_started, enter_answer, entered, entered_memory, write_register_answer, write_memory_answer, written_register, written_memory, leave_answer, left, start_outcome, start_memory, enter_outcome, enter_memory, write_register_outcome, write_memory_outcome, write_memory_memory, leave_outcome}
 
-pub accepted-start : (c : Convention) (b n : ℕ) → ok_memory (rules c) b n ≡ true → start_answer c b n ≡ Accepted
+pub accepted-start : (c : Convention) (b n : ℕ) → ok_memory (rules c) b n ≡ true → start_answer c b n ≡ Ok tt
 unfolding start_answer judge
 accepted-start c b n e = rw e
 
-pub refused-start : (c : Convention) (b n : ℕ) → ok_memory (rules c) b n ≡ false → start_answer c b n ≡ Refused BadMemory
+pub refused-start : (c : Convention) (b n : ℕ) → ok_memory (rules c) b n ≡ false → start_answer c b n ≡ Err BadMemory
 unfolding start_answer judge
 refused-start c b n e = rw e
 
 module _ (c : Convention) (b : ℕ) (l : List ℕ) (r : Registers) where
-  pub start-accepted : start_answer c b (length l) ≡ Accepted
-      → (start_outcome c b (length l) r ≡ record { answer = Accepted; state = started c b (length l) r }) × (start_memory c b l ≡ started_memory (rules c) l)
+  pub start-accepted : start_answer c b (length l) ≡ Ok tt
+      → (start_outcome c b (length l) r ≡ record { answer = Ok tt; state = started c b (length l) r }) × (start_memory c b l ≡ started_memory (rules c) l)
   unfolding start_outcome start_memory
   start-accepted e = (rw e, rw e)
 
-  pub start-refused : (x : FrameRefusal) → start_answer c b (length l) ≡ Refused x
-      → (start_outcome c b (length l) r ≡ record { answer = Refused x; state = not_started c r }) × (start_memory c b l ≡ l)
+  pub start-refused : (x : FrameRefusal) → start_answer c b (length l) ≡ Err x
+      → (start_outcome c b (length l) r ≡ record { answer = Err x; state = not_started c r }) × (start_memory c b l ≡ l)
   unfolding start_outcome start_memory
   start-refused x e = (rw e, rw e)
 
 module _ (s : State) (l : List ℕ) (f : Frame) where
-  pub enter-accepted : enter_answer (state_rules s) s (length l) f ≡ Accepted
-      → (enter_outcome s (length l) f ≡ record { answer = Accepted; state = entered (state_rules s) s f }) × (enter_memory s l f ≡ entered_memory (state_rules s) s l f)
+  pub enter-accepted : enter_answer (state_rules s) s (length l) f ≡ Ok tt
+      → (enter_outcome s (length l) f ≡ record { answer = Ok tt; state = entered (state_rules s) s f }) × (enter_memory s l f ≡ entered_memory (state_rules s) s l f)
   unfolding enter_outcome enter_memory
   enter-accepted e = (rw e, rw e)
 
-  pub enter-refused : (x : FrameRefusal) → enter_answer (state_rules s) s (length l) f ≡ Refused x
-      → (enter_outcome s (length l) f ≡ record { answer = Refused x; state = s }) × (enter_memory s l f ≡ l)
+  pub enter-refused : (x : FrameRefusal) → enter_answer (state_rules s) s (length l) f ≡ Err x
+      → (enter_outcome s (length l) f ≡ record { answer = Err x; state = s }) × (enter_memory s l f ≡ l)
   unfolding enter_outcome enter_memory
   enter-refused x e = (rw e, rw e)
 
 module _ (s : State) (n b i v : ℕ) where
-  pub write-register-accepted : write_register_answer (state_rules s) s n b i v ≡ Accepted → write_register_outcome s n b i v ≡ record { answer = Accepted; state = written_register s b i v }
+  pub write-register-accepted : write_register_answer (state_rules s) s n b i v ≡ Ok tt → write_register_outcome s n b i v ≡ record { answer = Ok tt; state = written_register s b i v }
   unfolding write_register_outcome
   write-register-accepted e = rw e
 
-  pub write-register-refused : (x : FrameRefusal) → write_register_answer (state_rules s) s n b i v ≡ Refused x → write_register_outcome s n b i v ≡ record { answer = Refused x; state = s }
+  pub write-register-refused : (x : FrameRefusal) → write_register_answer (state_rules s) s n b i v ≡ Err x → write_register_outcome s n b i v ≡ record { answer = Err x; state = s }
   unfolding write_register_outcome
   write-register-refused x e = rw e
 
@@ -59,22 +60,22 @@ unfolding written_register
 registers-written s b i v r e = rw e
 
 module _ (s : State) (l : List ℕ) (a : ℕ) (bs : List ℕ) where
-  pub write-memory-accepted : write_memory_answer (state_rules s) s (length l) a (length bs) ≡ Accepted
-      → (write_memory_outcome s (length l) a (length bs) ≡ record { answer = Accepted; state = s }) × (write_memory_memory s l a bs ≡ written_memory s l a bs)
+  pub write-memory-accepted : write_memory_answer (state_rules s) s (length l) a (length bs) ≡ Ok tt
+      → (write_memory_outcome s (length l) a (length bs) ≡ record { answer = Ok tt; state = s }) × (write_memory_memory s l a bs ≡ written_memory s l a bs)
   unfolding write_memory_outcome write_memory_memory
   write-memory-accepted e = (rw e, rw e)
 
-  pub write-memory-refused : (x : FrameRefusal) → write_memory_answer (state_rules s) s (length l) a (length bs) ≡ Refused x
-      → (write_memory_outcome s (length l) a (length bs) ≡ record { answer = Refused x; state = s }) × (write_memory_memory s l a bs ≡ l)
+  pub write-memory-refused : (x : FrameRefusal) → write_memory_answer (state_rules s) s (length l) a (length bs) ≡ Err x
+      → (write_memory_outcome s (length l) a (length bs) ≡ record { answer = Err x; state = s }) × (write_memory_memory s l a bs ≡ l)
   unfolding write_memory_outcome write_memory_memory
   write-memory-refused x e = (rw e, rw e)
 
 module _ (s : State) (l : List ℕ) where
-  pub leave-accepted : leave_answer (state_rules s) s l ≡ Accepted → leave_outcome s l ≡ record { answer = Accepted; state = left (state_rules s) s l }
+  pub leave-accepted : leave_answer (state_rules s) s l ≡ Ok tt → leave_outcome s l ≡ record { answer = Ok tt; state = left (state_rules s) s l }
   unfolding leave_outcome
   leave-accepted e = rw e
 
-  pub leave-refused : (x : FrameRefusal) → leave_answer (state_rules s) s l ≡ Refused x → leave_outcome s l ≡ record { answer = Refused x; state = s }
+  pub leave-refused : (x : FrameRefusal) → leave_answer (state_rules s) s l ≡ Err x → leave_outcome s l ≡ record { answer = Err x; state = s }
   unfolding leave_outcome
   leave-refused x e = rw e
 

@@ -11,7 +11,8 @@ use Rattle.base_words.proofs.Tests.{and_yes, not_yes}
 use Rattle.frame_rules.specs.declared.FrameRules.{FrameRules}
 use Rattle.frame_rules.specs.declared.Frame.{Frame}
 use Rattle.frame_rules.specs.Frames.{ok_registers, frame_size, bank_of, writable_register}
-use Rattle.frame_machine.specs.Answers.{Accepted, judge}
+use Rattle.frame_machine.specs.Answers.{judge}
+use Rattle.std.specs.Prelude.{Ok}
 use Rattle.frame_machine.specs.Machine.{State, stack_pointer, frame_at, top_frame, ok_frames, sizes, ok_memory, ok_state, state_tests, enter_answer, top, writable_address, write_register_answer, write_memory_answer, leave_tests, leave_answer}
 use Rattle.frame_machine.specs.Helpers.{Sound, CanEnter, CanLeave}
 use Rattle.frame_machine.proofs.Judging.{holds-yes, judge-both}
@@ -27,7 +28,7 @@ memory-yes k b n e =
     let t = and_yes (leb (b + n) k.limit) _ s.1 in
     (leb-true 256 n q.0, leb-true n 65536 r.0, leb-true (b + n) k.limit t.0, leb-true (k.room + k.floor) n t.1)
 
-pub state-yes : (k : FrameRules) (s : State) (n : ℕ) → judge (state_tests k s n) ≡ Accepted → Sound k s n
+pub state-yes : (k : FrameRules) (s : State) (n : ℕ) → judge (state_tests k s n) ≡ Ok tt → Sound k s n
 unfolding ok_state
 state-yes k s n e =
     let t = holds-yes _ _ e in
@@ -47,7 +48,7 @@ state-yes k s n e =
       length = eqb-true n s.size u.0;
     }
 
-pub state-accepted : (k : FrameRules) (s : State) (n : ℕ) → Sound k s n → judge (state_tests k s n) ≡ Accepted
+pub state-accepted : (k : FrameRules) (s : State) (n : ℕ) → Sound k s n → judge (state_tests k s n) ≡ Ok tt
 unfolding ok_state judge
 state-accepted k s n y =
     rw (
@@ -60,7 +61,7 @@ state-accepted k s n y =
       eq-eqb n s.size y.length,
     )
 
-pub enter-yes : (k : FrameRules) (s : State) (n : ℕ) (f : Frame) → enter_answer k s n f ≡ Accepted → Sound k s n × CanEnter k s f
+pub enter-yes : (k : FrameRules) (s : State) (n : ℕ) (f : Frame) → enter_answer k s n f ≡ Ok tt → Sound k s n × CanEnter k s f
 unfolding enter_answer
 enter-yes k s n f e =
     let t = judge-both (state_tests k s n) _ e in
@@ -77,19 +78,19 @@ enter-yes k s n f e =
       },
     )
 
-pub write-register-yes : (k : FrameRules) (s : State) (n b i v : ℕ) → write_register_answer k s n b i v ≡ Accepted → Sound k s n × (writable_register k (top k s) (bank_of b) i v ≡ true)
+pub write-register-yes : (k : FrameRules) (s : State) (n b i v : ℕ) → write_register_answer k s n b i v ≡ Ok tt → Sound k s n × (writable_register k (top k s) (bank_of b) i v ≡ true)
 unfolding write_register_answer
 write-register-yes k s n b i v e =
     let t = judge-both (state_tests k s n) _ e in
     (state-yes k s n t.0, (holds-yes _ _ t.1).0)
 
-pub write-memory-yes : (k : FrameRules) (s : State) (n a m : ℕ) → write_memory_answer k s n a m ≡ Accepted → Sound k s n × (writable_address k s a m ≡ true)
+pub write-memory-yes : (k : FrameRules) (s : State) (n a m : ℕ) → write_memory_answer k s n a m ≡ Ok tt → Sound k s n × (writable_address k s a m ≡ true)
 unfolding write_memory_answer
 write-memory-yes k s n a m e =
     let t = judge-both (state_tests k s n) _ e in
     (state-yes k s n t.0, (holds-yes _ _ t.1).0)
 
-pub leave-yes : (k : FrameRules) (s : State) (l : List ℕ) → leave_answer k s l ≡ Accepted → CanLeave k s (length l)
+pub leave-yes : (k : FrameRules) (s : State) (l : List ℕ) → leave_answer k s l ≡ Ok tt → CanLeave k s (length l)
 unfolding leave_answer
 leave-yes k s l e =
     let t = judge-both (state_tests k s (length l)) (leave_tests k s l) e in

@@ -1,10 +1,12 @@
 -- Answers and refusals. Document 01, "When the bridge says no"; document 02, No. 9. Assumes nothing.
-use Rattle.std.specs.Prelude.{ℕ, Bool, List, [], ◌∷◌}
+use Rattle.std.specs.Prelude.{ℕ, Bool, List, [], ◌∷◌, Result, Ok, Err}
 use Rattle.base_words.specs.Basics.{pick}
 pub use Rattle.frame_machine.specs.declared.FrameRefusal.{FrameRefusal}
 pub use Rattle.frame_machine.specs.declared.FrameRefusal.TheVariants.{BadMemory, BadRequest, TooManyFrames, NoRoom, NotPermitted, BrokenChain, NothingEntered, BadState, AboveLeaf}
-pub use Rattle.frame_machine.specs.declared.FrameAnswer.{FrameAnswer}
-pub use Rattle.frame_machine.specs.declared.FrameAnswer.TheVariants.{Accepted, Refused}
+
+-- what a call answers: it is accepted, or refused and why
+abbrev pub FrameAnswer : Type 0
+FrameAnswer = Result (Unit {0}) FrameRefusal
 
 -- document 01's number of each refusal ("No"), and document 02's 28; its place is 0 for all of them
 abbrev pub frame_refusal_number : FrameRefusal → ℕ
@@ -20,8 +22,8 @@ frame_refusal_number AboveLeaf = 28
 
 -- an answer's number: 0 for an accepted call
 abbrev pub frame_answer_number : FrameAnswer → ℕ
-frame_answer_number Accepted = 0
-frame_answer_number (Refused r) = frame_refusal_number r
+frame_answer_number (Ok tt) = 0
+frame_answer_number (Err r) = frame_refusal_number r
 
 -- What must hold for a call to be accepted, and the refusal given where it does not.
 pub record Requirement : Type 0 where
@@ -33,10 +35,10 @@ require b r = record { holds = b; refusal = r }
 
 -- the first test that does not hold refuses the call
 unfoldable pub judge : List Requirement → FrameAnswer
-judge [] = Accepted
-judge (t ∷ ts) = pick t.holds (judge ts) (Refused t.refusal)
+judge [] = Ok tt
+judge (t ∷ ts) = pick t.holds (judge ts) (Err t.refusal)
 
 -- what stands after a call: a where it is accepted, else b as before ("Every refusal leaves all buffers and the state untouched")
 abbrev pub settle : {A : Type 0} → FrameAnswer → A → A → A
-settle Accepted a b = a
-settle (Refused r) a b = b
+settle (Ok tt) a b = a
+settle (Err r) a b = b

@@ -9,7 +9,7 @@ use base_conventions::Convention;
 use frame_rules::{Frame, Registers};
 
 // Why a call is refused.
-#[derive(Clone, Copy)]
+#[derive(Clone, Copy, Debug, PartialEq, Eq)]
 pub enum FrameRefusal {
     // The memory's length or base is out of range, or its length is not that of the start.
     BadMemory,
@@ -31,35 +31,32 @@ pub enum FrameRefusal {
     AboveLeaf,
 }
 
-#[derive(Clone, Copy)]
-pub enum FrameAnswer {
-    Accepted,
-    Refused(FrameRefusal),
-}
+// Document 01's number of a refusal.
+impl From<FrameRefusal> for u64 {
+    ghost from_gives = { λ r n. n ≡ frame_refusal_number r };
 
-// Document 01's number of a refusal, and of an answer: 0 for an accepted call.
-fn frame_refusal_number(r: FrameRefusal) -> u64
-    ensures { result ≡ frame_refusal_number r }
-{
-    match r {
-        FrameRefusal::BadMemory => 16,
-        FrameRefusal::BadRequest => 17,
-        FrameRefusal::TooManyFrames => 18,
-        FrameRefusal::NoRoom => 19,
-        FrameRefusal::NotPermitted => 20,
-        FrameRefusal::BrokenChain => 21,
-        FrameRefusal::NothingEntered => 22,
-        FrameRefusal::BadState => 23,
-        FrameRefusal::AboveLeaf => 28,
+    fn from(r: FrameRefusal) -> u64 {
+        match r {
+            FrameRefusal::BadMemory => 16,
+            FrameRefusal::BadRequest => 17,
+            FrameRefusal::TooManyFrames => 18,
+            FrameRefusal::NoRoom => 19,
+            FrameRefusal::NotPermitted => 20,
+            FrameRefusal::BrokenChain => 21,
+            FrameRefusal::NothingEntered => 22,
+            FrameRefusal::BadState => 23,
+            FrameRefusal::AboveLeaf => 28,
+        }
     }
 }
 
-pub fn answer_number(a: FrameAnswer) -> u64
+// An answer's number: 0 for an accepted call.
+pub fn answer_number(a: Result<(), FrameRefusal>) -> u64
     ensures { result ≡ frame_answer_number a }
 {
     match a {
-        FrameAnswer::Accepted => 0,
-        FrameAnswer::Refused(r) => frame_refusal_number(r),
+        Ok(()) => 0,
+        Err(r) => u64::from(r),
     }
 }
 
@@ -77,9 +74,9 @@ pub struct State {
     pub frames: [Frame; MAX_ENTERED],
 }
 
-// What a call answers, and the state after it.
+// What a call answers, and the state after it. The state is promised after a refusal too, so it stands beside the answer and not inside it.
 #[derive(Clone, Copy)]
 pub struct FrameOutcome {
-    pub answer: FrameAnswer,
+    pub answer: Result<(), FrameRefusal>,
     pub state: State,
 }

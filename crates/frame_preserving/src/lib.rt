@@ -18,8 +18,7 @@ pub fn gpr_at(k: FrameRules, f: Frame, s: usize, n: usize) -> usize
     let w = k.word;
     let g = f.first_gpr;
     let m = f.first_fpr;
-    let linkage = k.linkage;
-    match linkage {
+    match k.linkage {
         Linkage::LinkRegister(_, _) => s - 8 * (e - m) - w * (e - g),
         Linkage::SaveArea(_) => s + w * g,
     }
@@ -41,19 +40,17 @@ fn save_general(memory: &mut [u8], k: FrameRules, f: Frame, r: Registers, s: usi
 {
     let n = memory.len();
     let at = gpr_at(k, f, s, n);
-    let gpr = r.gpr;
     let g = f.first_gpr;
-    frame_saves::save_run(memory, &gpr, at, k.word, g, k.end - g);
+    frame_saves::save_run(memory, &r.gpr, at, k.word, g, k.end - g);
 }
 
 fn save_floating(memory: &mut [u8], k: FrameRules, f: Frame, r: Registers, s: usize)
     requires { SavesFit k f s (length memory.old) }
     ensures { memory.new ≡ save_all memory.old (fpr_save k f s r.fpr ∷ []) }
 {
-    let fpr = r.fpr;
     let m = f.first_fpr;
     let c = k.end - m;
-    frame_saves::save_run(memory, &fpr, s - 8 * c, 8, m, c);
+    frame_saves::save_run(memory, &r.fpr, s - 8 * c, 8, m, c);
 }
 
 // All that an enter saves besides the back chain, with the caller's pointer at s.
@@ -61,8 +58,7 @@ pub fn save_registers(memory: &mut [u8], k: FrameRules, f: Frame, r: Registers, 
     requires { SavesFit k f s (length memory.old) }
     ensures { memory.new ≡ save_all memory.old (saves k f s r) }
 {
-    let linkage = k.linkage;
-    match linkage {
+    match k.linkage {
         Linkage::LinkRegister(cr_at, lr_at) => {
             save_general(memory, k, f, r, s);
             save_floating(memory, k, f, r, s);
@@ -81,8 +77,7 @@ pub fn link_at(k: FrameRules, o: usize, s: usize) -> usize
     requires { (LawfulFrames k) × (s ≤ 100000) }
     ensures { result ≡ link_at k.linkage k o s }
 {
-    let linkage = k.linkage;
-    match linkage {
+    match k.linkage {
         Linkage::LinkRegister(_, _) => o,
         Linkage::SaveArea(_) => s + k.word * k.pointer,
     }
@@ -100,8 +95,7 @@ fn restore_lr(memory: &[u8], k: FrameRules, f: Frame, s: usize, x: u64) -> u64
     requires { (LawfulFrames k) × (s + k.header ≤ length memory.now) }
     ensures { result ≡ restored_lr k.linkage k f s memory.now x }
 {
-    let linkage = k.linkage;
-    match linkage {
+    match k.linkage {
         Linkage::LinkRegister(_, lr_at) => {
             if f.leaf {
                 x
@@ -117,8 +111,7 @@ fn restore_cr(memory: &[u8], k: FrameRules, f: Frame, s: usize, x: u32) -> u32
     requires { (LawfulFrames k) × (s + k.header ≤ length memory.now) }
     ensures { result ≡ restored_cr k.linkage f s memory.now x }
 {
-    let linkage = k.linkage;
-    match linkage {
+    match k.linkage {
         Linkage::LinkRegister(cr_at, _) => {
             if f.saves_cr {
                 let v = base_words::load(memory, s + cr_at, 4);
@@ -137,21 +130,13 @@ pub fn restore(memory: &[u8], k: FrameRules, f: Frame, s: usize, p: u64, r: Regi
     ensures { result ≡ restored k f s memory.now p r }
 {
     let at = gpr_at(k, f, s, memory.len());
-    let gpr = r.gpr;
-    let fpr = r.fpr;
     let g = f.first_gpr;
     let m = f.first_fpr;
     let c = k.end - m;
-    let i = k.pointer;
-    let mut general = frame_saves::load_run(memory, gpr, at, k.word, g, k.end - g);
-    general[i] = p;
-    let floating = frame_saves::load_run(memory, fpr, s - 8 * c, 8, m, c);
+    let mut gpr = frame_saves::load_run(memory, r.gpr, at, k.word, g, k.end - g);
+    gpr[k.pointer] = p;
+    let fpr = frame_saves::load_run(memory, r.fpr, s - 8 * c, 8, m, c);
     let lr = restore_lr(memory, k, f, s, r.lr);
     let cr = restore_cr(memory, k, f, s, r.cr);
-    Registers {
-        gpr: general,
-        fpr: floating,
-        lr: lr,
-        cr: cr,
-    }
+    Registers { gpr, fpr, lr, cr }
 }

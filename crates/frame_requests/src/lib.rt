@@ -8,20 +8,11 @@ ghost use Rattle.frame_rules.specs.Helpers.{LawfulFrames};
 use frame_rules::{Frame, FrameRules, Linkage};
 
 // Is a request that asks for a leaf one that may?
+#[tactic(auto, unfolding(frame_rules::specs::Frames::ok_leaf))]
 fn leaf_ok(k: FrameRules, f: Frame) -> bool
     ensures { result ≡ ok_leaf k f }
 {
-    if !f.leaf {
-        return true;
-    }
-    let linkage = k.linkage;
-    if !frame_rules::has_condition(linkage) {
-        return false;
-    }
-    if f.locals != 0 {
-        return false;
-    }
-    f.outgoing == 0
+    !f.leaf || frame_rules::has_condition(k.linkage) && f.locals == 0 && f.outgoing == 0
 }
 
 // The largest outgoing area that a request may ask for: `max_outgoing` of frame_rules/specs/Frames.antt.
@@ -30,42 +21,24 @@ pub const MAX_OUTGOING: usize = 32776;
 const MAX_LOCALS: usize = 32000;
 
 // Is a request in range?
+#[tactic(auto, unfolding(frame_rules::specs::Frames::ok_request))]
 pub fn request_ok(k: FrameRules, f: Frame) -> bool
     ensures { result ≡ ok_request k f }
 {
-    let g = k.gpr.request;
-    if !frame_rules::in_span(g, f.first_gpr) {
-        return false;
-    }
-    let m = k.fpr.request;
-    if !frame_rules::in_span(m, f.first_fpr) {
-        return false;
-    }
-    if MAX_LOCALS < f.locals {
-        return false;
-    }
-    let p = f.outgoing;
-    if p % 8 != 0 {
-        return false;
-    }
-    if MAX_OUTGOING < p {
-        return false;
-    }
-    if !leaf_ok(k, f) {
-        return false;
-    }
-    let linkage = k.linkage;
-    if frame_rules::has_condition(linkage) {
-        return true;
-    }
-    !f.saves_cr
+    frame_rules::in_span(k.gpr.request, f.first_gpr)
+        && frame_rules::in_span(k.fpr.request, f.first_fpr)
+        && f.locals <= MAX_LOCALS
+        && f.outgoing % 8 == 0
+        && f.outgoing <= MAX_OUTGOING
+        && leaf_ok(k, f)
+        && (frame_rules::has_condition(k.linkage) || !f.saves_cr)
 }
 
 // The length of a frame's outgoing area.
 pub fn outgoing_length(k: FrameRules, f: Frame) -> usize
     ensures { result ≡ outgoing_length k f }
 {
-    base_words::larger(k.least, f.outgoing)
+    k.least.max(f.outgoing)
 }
 
 // The bytes that a frame saves below its caller's pointer.
@@ -78,8 +51,7 @@ pub fn below_size(k: FrameRules, f: Frame) -> usize
     let w = k.word;
     let g = f.first_gpr;
     let m = f.first_fpr;
-    let linkage = k.linkage;
-    match linkage {
+    match k.linkage {
         Linkage::LinkRegister(_, _) => 8 * (e - m) + w * (e - g),
         Linkage::SaveArea(_) => 8 * (e - m),
     }
@@ -97,23 +69,19 @@ fn full_size(k: FrameRules, f: Frame) -> usize
 }
 
 // How far an enter moves the stack pointer.
+#[tactic(auto, unfolding(frame_rules::specs::Frames::frame_size))]
 pub fn frame_size(k: FrameRules, f: Frame) -> usize
     requires lawful_frames { LawfulFrames k }
     requires f_value { ok_request k f ≡ true }
     ensures { result ≡ frame_size k f }
 {
-    if f.leaf {
-        return 0;
-    }
-    full_size(k, f)
+    if f.leaf { 0 } else { full_size(k, f) }
 }
 
 // The bytes of a frame's back chain.
+#[tactic(auto, unfolding(frame_rules::specs::Frames::chain_width))]
 pub fn chain_width(k: FrameRules, f: Frame) -> usize
     ensures { result ≡ chain_width k f }
 {
-    if f.leaf {
-        return 0;
-    }
-    k.word
+    if f.leaf { 0 } else { k.word }
 }

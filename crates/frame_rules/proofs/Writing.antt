@@ -1,4 +1,5 @@
 -- What a permitted write of a condition field cannot reach. Assumes nothing.
+use Rattle.std.specs.Prelude.{Option, Some, None}
 use Prim.Native.Nat.{ℕ, zero, suc, ◌^◌, ◌≤◌, ◌<◌}
 use mathlib.Core.Path.{◌≡◌, refl, sym, ◌∙◌}
 use mathlib.Core.Logic.{◌⊎◌, inl, inr, ⊎_elim}
@@ -8,7 +9,7 @@ use lib.Dec.{leb}
 use borrow.Author.Tests.{leb-true}
 use Rattle.base_words.proofs.Tests.{and_yes, or_yes}
 use Rattle.base_words.proofs.Basics.{between}
-use Rattle.frame_rules.specs.Rules.{Linkage, LinkRegister, SaveArea, FrameRules, Frame, RegisterBank, General, Floating, Link, ConditionField, None}
+use Rattle.frame_rules.specs.Rules.{Linkage, LinkRegister, SaveArea, FrameRules, Frame, RegisterBank, General, Floating, Link, ConditionField}
 use Rattle.frame_rules.specs.Frames.{saves_cr_of, has_condition, writable_field, with_condition_field, preserved_fields, preserved_condition, first_gpr_of, first_fpr_of, writable, writable_register}
 use Rattle.frame_rules.specs.Helpers.{LawfulFrames, Named}
 use Rattle.frame_rules.proofs.Conventions.{writable-lt}
@@ -67,10 +68,10 @@ field-preserves k f n v c p z h =
     (⊎_elim (λ a. inl a) (λ a. ⊎_elim (λ b. inr b) (λ b. absurd (false≢true (sym z ∙ b.0))) a) q.1))
 
 -- a register that may be written is there
-pub writable-named : (k : FrameRules) → LawfulFrames k → (f : Frame) (b : RegisterBank) (n v : ℕ) → writable_register k f b n v ≡ true → Named b n v
+pub writable-named : (k : FrameRules) → LawfulFrames k → (f : Frame) (b : Option RegisterBank) (n v : ℕ) → writable_register k f b n v ≡ true → Named b n v
 unfolding writable_register
-writable-named k law f General n v e = writable-lt k.gpr k.end law.gpr (first_gpr_of f) n (and_yes (writable k.gpr (first_gpr_of f) n) _ e).0
-writable-named k law f Floating n v e = writable-lt k.fpr k.end law.fpr (first_fpr_of f) n e
-writable-named k law f Link n v e = tt
-writable-named k law f ConditionField n v e = field-number k f n v e
+writable-named k law f (Some General) n v e = writable-lt k.gpr k.end law.gpr (first_gpr_of f) n (and_yes (writable k.gpr (first_gpr_of f) n) _ e).0
+writable-named k law f (Some Floating) n v e = writable-lt k.fpr k.end law.fpr (first_fpr_of f) n e
+writable-named k law f (Some Link) n v e = tt
+writable-named k law f (Some ConditionField) n v e = field-number k f n v e
 writable-named k law f None n v e = tt

@@ -1,10 +1,10 @@
 -- One frame by the rules k of a convention: what may be asked, its size, what is saved where and given back, and what it may write. Document 01, "Frames"; document 02, No. 1 and No. 9.
 -- A definition that goes by cases on the linkage takes it as its first argument, and is used at `k.linkage`. Places are offsets in the memory; s is that of the caller's stack pointer S.
 -- Assumes nothing.
-use Rattle.std.specs.Prelude.{ℕ, zero, suc, ◌+◌, ◌-◌, ◌*◌, ◌/◌, ◌%◌, ◌^◌, max, Bool, true, false, not, ◌&&◌, ◌||◌, List, [], ◌∷◌, get_or, set, leb, eqb}
+use Rattle.std.specs.Prelude.{ℕ, zero, suc, ◌+◌, ◌-◌, ◌*◌, ◌/◌, ◌%◌, ◌^◌, max, Bool, true, false, not, ◌&&◌, ◌||◌, List, [], ◌∷◌, get_or, set, leb, eqb, Option, Some, None}
 use Rattle.base_words.specs.Basics.{pick, round_up, flag}
 use Rattle.frame_saves.specs.Saves.{Save, load, taken}
-use Rattle.frame_rules.specs.Rules.{in_span, within, BankRules, Linkage, LinkRegister, SaveArea, FrameRules, Frame, RegisterBank, General, Floating, Link, ConditionField, None, Registers}
+use Rattle.frame_rules.specs.Rules.{in_span, within, BankRules, Linkage, LinkRegister, SaveArea, FrameRules, Frame, RegisterBank, General, Floating, Link, ConditionField, Registers}
 
 -- the letters of document 01: g and m, the first general and floating register saved, and whether CR is
 abbrev pub first_gpr_of : Frame → ℕ
@@ -188,17 +188,17 @@ writable b from n = within b.volatile n || (leb from n && leb n b.last)
 unfoldable pub writable_field : FrameRules → Frame → ℕ → ℕ → Bool
 writable_field k f n v = has_condition k.linkage && (leb v 15 && (leb n 1 || ((leb 5 n && leb n 7) || (saves_cr_of f && (leb 2 n && leb n 4)))))
 
--- the bank of a number: 0 general, 1 floating, 2 LR, 3 the fields of CR
-unfoldable pub bank_of : ℕ → RegisterBank
-bank_of b = pick (eqb b 0) General (pick (eqb b 1) Floating (pick (eqb b 2) Link (pick (eqb b 3) ConditionField None)))
+-- the bank of a number: 0 general, 1 floating, 2 LR, 3 the fields of CR; another number names none
+unfoldable pub bank_of : ℕ → Option RegisterBank
+bank_of b = pick (eqb b 0) (Some General) (pick (eqb b 1) (Some Floating) (pick (eqb b 2) (Some Link) (pick (eqb b 3) (Some ConditionField) None)))
 
 -- Is a write of v to register n of a bank permitted to the frame f? LR's number is not looked at; LR and CR are not writable on Z;
 -- 02, No. 1: "a GPR or LR write over 2^32 - 1 gives 20"; No. 9, of a leaf: "LR is not saved and so may not be written"
-unfoldable pub writable_register : FrameRules → Frame → RegisterBank → ℕ → ℕ → Bool
-writable_register k f General n v = writable k.gpr (first_gpr_of f) n && leb v k.limit
-writable_register k f Floating n v = writable k.fpr (first_fpr_of f) n
-writable_register k f Link n v = has_condition k.linkage && (not f.leaf && leb v k.limit)
-writable_register k f ConditionField n v = writable_field k f n v
+unfoldable pub writable_register : FrameRules → Frame → Option RegisterBank → ℕ → ℕ → Bool
+writable_register k f (Some General) n v = writable k.gpr (first_gpr_of f) n && leb v k.limit
+writable_register k f (Some Floating) n v = writable k.fpr (first_fpr_of f) n
+writable_register k f (Some Link) n v = has_condition k.linkage && (not f.leaf && leb v k.limit)
+writable_register k f (Some ConditionField) n v = writable_field k f n v
 writable_register k f None n v = false
 
 -- the weight of field n's lowest bit, and c with field n at v
@@ -209,9 +209,9 @@ unfoldable pub with_condition_field : ℕ → ℕ → ℕ → ℕ
 with_condition_field c n v = c / (16 * unit_of n) * (16 * unit_of n) + v * unit_of n + c % unit_of n
 
 -- the registers after an accepted write: "An accepted write puts the given value .. in the place named and changes nothing else"
-unfoldable pub with_register : Registers → RegisterBank → ℕ → ℕ → Registers
-with_register r General n v = record { gpr = set r.gpr n v; fpr = r.fpr; lr = r.lr; cr = r.cr }
-with_register r Floating n v = record { gpr = r.gpr; fpr = set r.fpr n v; lr = r.lr; cr = r.cr }
-with_register r Link n v = record { gpr = r.gpr; fpr = r.fpr; lr = v; cr = r.cr }
-with_register r ConditionField n v = record { gpr = r.gpr; fpr = r.fpr; lr = r.lr; cr = with_condition_field r.cr n v }
+unfoldable pub with_register : Registers → Option RegisterBank → ℕ → ℕ → Registers
+with_register r (Some General) n v = record { gpr = set r.gpr n v; fpr = r.fpr; lr = r.lr; cr = r.cr }
+with_register r (Some Floating) n v = record { gpr = r.gpr; fpr = set r.fpr n v; lr = r.lr; cr = r.cr }
+with_register r (Some Link) n v = record { gpr = r.gpr; fpr = r.fpr; lr = v; cr = r.cr }
+with_register r (Some ConditionField) n v = record { gpr = r.gpr; fpr = r.fpr; lr = r.lr; cr = with_condition_field r.cr n v }
 with_register r None n v = r

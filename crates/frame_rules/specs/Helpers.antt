@@ -1,8 +1,8 @@
 -- For proofs and helpers alone: no claim cites this file.
 -- What the machine asks of a convention's numbers: that the parts of a frame and the sets of registers do not meet, and that sizes stay small;
 -- and what the functions that save, restore and write ask of their numbers. Assumes nothing.
-use Rattle.std.specs.Prelude.{ℕ, ◌+◌, ◌-◌, ◌*◌, ◌^◌, ◌≤◌, ◌<◌, ◌≡◌, ◌⊎◌, Bool, true, false, ◌&&◌, ◌||◌, List, [], ◌∷◌, ltb}
-use Rattle.frame_rules.specs.Rules.{RegisterSpan, within, BankRules, Linkage, LinkRegister, SaveArea, FrameRules, Frame, RegisterBank, General, Floating, Link, ConditionField, None}
+use Rattle.std.specs.Prelude.{ℕ, ◌+◌, ◌-◌, ◌*◌, ◌^◌, ◌≤◌, ◌<◌, ◌≡◌, ◌⊎◌, Bool, true, false, ◌&&◌, ◌||◌, List, [], ◌∷◌, ltb, Option, Some, None}
+use Rattle.frame_rules.specs.Rules.{RegisterSpan, within, BankRules, Linkage, LinkRegister, SaveArea, FrameRules, Frame, RegisterBank, General, Floating, Link, ConditionField}
 use Rattle.frame_rules.specs.Frames.{ok_request, below, max_memory}
 
 -- no register of the span, and of the spans, is in the others
@@ -64,9 +64,9 @@ pub record SavesFit (k : FrameRules) (f : Frame) (s n : ℕ) : Type 0 where
   pub room : s + k.header ≤ n
 
 -- register n of the bank is there, and v is a value of it
-abbrev pub Named : RegisterBank → ℕ → ℕ → Type 0
-Named General n v = n < 32
-Named Floating n v = n < 32
-Named Link n v = Unit {0}
-Named ConditionField n v = (n ≤ 7) × (v ≤ 15)
+abbrev pub Named : Option RegisterBank → ℕ → ℕ → Type 0
+Named (Some General) n v = n < 32
+Named (Some Floating) n v = n < 32
+Named (Some Link) n v = Unit {0}
+Named (Some ConditionField) n v = (n ≤ 7) × (v ≤ 15)
 Named None n v = Unit {0}

@@ -12,7 +12,7 @@ pub use Rattle.frame_rules.specs.declared.Linkage.TheVariants.{LinkRegister, Sav
 pub use Rattle.frame_rules.specs.declared.FrameRules.{FrameRules}
 pub use Rattle.frame_rules.specs.declared.Frame.{Frame}
 pub use Rattle.frame_rules.specs.declared.RegisterBank.{RegisterBank}
-pub use Rattle.frame_rules.specs.declared.RegisterBank.TheVariants.{General, Floating, Link, ConditionField, None}
+pub use Rattle.frame_rules.specs.declared.RegisterBank.TheVariants.{General, Floating, Link, ConditionField}
 pub use Rattle.frame_rules.specs.declared.Registers.{Registers}
 
 abbrev pub span : ℕ → ℕ → RegisterSpan

@@ -8,7 +8,7 @@ ghost use Rattle.frame_rules.specs.Rules.{in_span};
 ghost use Rattle.frame_rules.specs.Frames.{start_frame, with_pointer, has_condition};
 
 // The registers `first` to `last`.
-#[derive(Clone, Copy)]
+#[derive(Clone, Copy, Debug, PartialEq, Eq)]
 pub struct RegisterSpan {
     pub first: usize,
     pub last: usize,
@@ -25,7 +25,7 @@ pub struct BankRules {
 }
 
 // Where the general registers are saved, and where the return address stands.
-#[derive(Clone, Copy)]
+#[derive(Clone, Copy, Debug, PartialEq, Eq)]
 pub enum Linkage {
     // In LR. The general registers are saved below the floating registers, CR and LR in the caller's header at these offsets.
     LinkRegister(usize, usize),
@@ -61,7 +61,7 @@ pub struct FrameRules {
 // A frame: what a request asks for, and what is recorded of an entered one. The general registers from `first_gpr` on and the floating
 // registers from `first_fpr` on are saved, CR if `saves_cr`; `locals` and `outgoing` are bytes. A leaf has no frame: its saves lie below
 // the stack pointer, which stays.
-#[derive(Clone, Copy)]
+#[derive(Clone, Copy, Debug, PartialEq, Eq)]
 pub struct Frame {
     pub first_gpr: usize,
     pub first_fpr: usize,
@@ -71,14 +71,23 @@ pub struct Frame {
     pub leaf: bool,
 }
 
-// The bank that a register to write is named in; `None` is none.
-#[derive(Clone, Copy)]
+// A record that was never used.
+pub const NO_FRAME: Frame = Frame {
+    first_gpr: 0,
+    first_fpr: 0,
+    saves_cr: false,
+    locals: 0,
+    outgoing: 0,
+    leaf: false,
+};
+
+// The bank that a register to write is named in.
+#[derive(Clone, Copy, Debug, PartialEq, Eq)]
 pub enum RegisterBank {
     General,
     Floating,
     Link,
     ConditionField,
-    None,
 }
 
 // A machine's registers.
@@ -96,10 +105,7 @@ pub struct Registers {
 pub fn in_span(v: RegisterSpan, n: usize) -> bool
     ensures { result ≡ in_span v n }
 {
-    if n < v.first {
-        return false;
-    }
-    n <= v.last
+    v.first <= n && n <= v.last
 }
 
 // The start as a frame: nothing saved, no locals, no outgoing area asked for.
@@ -120,10 +126,7 @@ pub fn start_frame(k: FrameRules) -> Frame
 pub fn has_condition(p: Linkage) -> bool
     ensures { result ≡ has_condition p }
 {
-    match p {
-        Linkage::LinkRegister(_, _) => true,
-        Linkage::SaveArea(_) => false,
-    }
+    matches!(p, Linkage::LinkRegister(_, _))
 }
 
 // The registers with the stack pointer at p.
@@ -131,8 +134,7 @@ pub fn with_pointer(k: FrameRules, r: Registers, p: u64) -> Registers
     requires { k.pointer < 32 }
     ensures { result ≡ with_pointer k r p }
 {
-    let i = k.pointer;
     let mut q = r;
-    q.gpr[i] = p;
+    q.gpr[k.pointer] = p;
     q
 }

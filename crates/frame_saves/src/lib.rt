@@ -10,14 +10,9 @@ pub fn save_run(memory: &mut [u8], xs: &[u64; 32], at: usize, w: usize, n: usize
     ensures { memory.new ≡ save_run memory.old xs.now at w n c }
 {
     let mut a = at;
-    let mut i = n;
-    let mut k = c;
-    while 0 < k {
-        let v = xs[i];
-        base_words::store(memory, a, w, v);
+    for i in n..n + c {
+        base_words::store(memory, a, w, xs[i]);
         a += w;
-        i += 1;
-        k -= 1;
     }
 }
 
@@ -28,14 +23,9 @@ pub fn load_run(memory: &[u8], xs: [u64; 32], at: usize, w: usize, n: usize, c: 
 {
     let mut ys = xs;
     let mut a = at;
-    let mut i = n;
-    let mut k = c;
-    while 0 < k {
-        let v = base_words::load(memory, a, w);
-        ys[i] = v;
+    for i in n..n + c {
+        ys[i] = base_words::load(memory, a, w);
         a += w;
-        i += 1;
-        k -= 1;
     }
     ys
 }

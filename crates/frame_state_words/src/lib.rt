@@ -4,12 +4,12 @@
 ghost use Rattle.std.specs.Prelude.{◌≡◌, ◌+◌, ◌≤◌, ◌<◌, length};
 ghost use Rattle.base_words.specs.Splice.{splice, part};
 ghost use Rattle.frame_machine.specs.Machine.{max_entered};
-ghost use Rattle.frame_word_layout.specs.Words.{machine_words, registers_words, record_words, records_at, convention_of, is_known, depth_in, registers_in, frame_in, frames_in, state_in, register_words, frames_words, state_words, with_registers, with_frame};
+ghost use Rattle.frame_word_layout.specs.Words.{machine_words, registers_words, record_words, records_at, depth_in, registers_in, frame_in, frames_in, state_in, register_words, frames_words, state_words, with_registers, with_frame};
 ghost use Rattle.frame_word_layout.specs.Calls.{changed};
 
-use base_conventions::{Convention, ConventionCode};
+use base_conventions::Convention;
 use frame_machine::{MAX_ENTERED, State};
-use frame_rules::{Frame, Registers};
+use frame_rules::{Frame, NO_FRAME, Registers};
 use frame_word_layout::{
     CR_AT, CR_IN, DEPTH_AT, FLOATING_AT, FLOATING_IN, LR_AT, LR_IN, RECORD_WORDS, RECORDS_AT,
     REGISTERS_AT,
@@ -22,11 +22,7 @@ fn copy(to: &mut [u64], at: usize, from: &[u64], start: usize, n: usize)
     requires { (at + n ≤ length to.old) × (start + n ≤ length from.now) }
     ensures { to.new ≡ splice to.old at (part start n from.now) }
 {
-    let mut i: usize = 0;
-    while i < n {
-        to[at + i] = from[start + i];
-        i += 1;
-    }
+    to[at..at + n].copy_from_slice(&from[start..start + n]);
 }
 
 // The registers in the words from `at` on; of CR the low 32 bits.
@@ -39,39 +35,23 @@ pub fn registers_in(words: &[u64], at: usize) -> Registers
     copy(&mut gpr, 0, words, at, 32);
     copy(&mut fpr, 0, words, at + FLOATING_IN, 32);
     Registers {
-        gpr: gpr,
-        fpr: fpr,
+        gpr,
+        fpr,
         lr: words[at + LR_IN],
         cr: (words[at + CR_IN] % 4294967296) as u32,
     }
 }
 
 // The request or the record in the six words from `at` on; one that is refused where a flag of it is neither 0 nor 1.
+#[tactic(auto, unfolding(frame_word_layout::specs::Words::frame_in))]
 pub fn frame_in(words: &[u64], at: usize) -> Frame
     requires { at + record_words ≤ length words.now }
     ensures { result ≡ frame_in words.now at }
 {
     let flag = words[at + 2];
-    if 1 < flag {
-        return Frame {
-            first_gpr: 0,
-            first_fpr: 0,
-            saves_cr: false,
-            locals: 0,
-            outgoing: 0,
-            leaf: false,
-        };
-    }
     let mark = words[at + 5];
-    if 1 < mark {
-        return Frame {
-            first_gpr: 0,
-            first_fpr: 0,
-            saves_cr: false,
-            locals: 0,
-            outgoing: 0,
-            leaf: false,
-        };
+    if 1 < flag || 1 < mark {
+        return NO_FRAME;
     }
     Frame {
         first_gpr: words[at] as usize,
@@ -88,56 +68,23 @@ fn frames_in(words: &[u64]) -> [Frame; MAX_ENTERED]
     requires { length words.now ≡ machine_words }
     ensures { result ≡ frames_in max_entered words.now 0 }
 {
-    let none = Frame {
-        first_gpr: 0,
-        first_fpr: 0,
-        saves_cr: false,
-        locals: 0,
-        outgoing: 0,
-        leaf: false,
-    };
-    let mut fs = [none; MAX_ENTERED];
-    let mut i: usize = 0;
-    while i < MAX_ENTERED {
-        let f = frame_in(words, RECORDS_AT + RECORD_WORDS * i);
-        fs[i] = f;
-        i += 1;
+    let mut fs = [NO_FRAME; MAX_ENTERED];
+    for (i, f) in fs.iter_mut().enumerate() {
+        *f = frame_in(words, RECORDS_AT + RECORD_WORDS * i);
     }
     fs
-}
-
-// A code's convention; a code that is none is not accepted by `depth_in`.
-fn convention_of(code: ConventionCode) -> Convention
-    ensures { result ≡ convention_of code }
-{
-    match code {
-        ConventionCode::Known(c) => c,
-        ConventionCode::Unknown => Convention::Z,
-    }
-}
-
-fn is_known(code: ConventionCode) -> bool
-    ensures { result ≡ is_known code }
-{
-    match code {
-        ConventionCode::Known(_) => true,
-        ConventionCode::Unknown => false,
-    }
 }
 
 // One over the most, which every call refuses.
 const NO_DEPTH: usize = MAX_ENTERED + 1;
 
 // The depth; `NO_DEPTH` where the convention's code or CR cannot be.
+#[tactic(auto, unfolding(frame_word_layout::specs::Words::depth_in, frame_word_layout::specs::Words::is_machine))]
 fn depth_in(words: &[u64]) -> usize
     requires { length words.now ≡ machine_words }
     ensures { result ≡ depth_in words.now }
 {
-    let code = base_conventions::convention_code(words[0]);
-    if !is_known(code) {
-        return NO_DEPTH;
-    }
-    if 4294967295 < words[CR_AT] {
+    if Convention::try_from(words[0]).is_err() || 4294967295 < words[CR_AT] {
         return NO_DEPTH;
     }
     words[DEPTH_AT] as usize
@@ -148,17 +95,18 @@ pub fn state_in(words: &[u64]) -> State
     requires { length words.now ≡ machine_words }
     ensures { result ≡ state_in words.now }
 {
-    let convention = convention_of(base_conventions::convention_code(words[0]));
+    // A code that is no convention's is not accepted by `depth_in`.
+    let convention = Convention::try_from(words[0]).unwrap_or(Convention::Z);
     let depth = depth_in(words);
     let registers = registers_in(words, REGISTERS_AT);
     let frames = frames_in(words);
     State {
-        convention: convention,
+        convention,
         base: words[1],
         size: words[2] as usize,
-        depth: depth,
-        registers: registers,
-        frames: frames,
+        depth,
+        registers,
+        frames,
     }
 }
 
@@ -177,10 +125,8 @@ pub fn put_registers(words: &mut [u64], r: Registers)
     requires { length words.old ≡ machine_words }
     ensures { (words.new ≡ with_registers words.old r) × (length (register_words r) ≡ registers_words) }
 {
-    let gpr = r.gpr;
-    let fpr = r.fpr;
-    put_bank(words, REGISTERS_AT, gpr);
-    put_bank(words, FLOATING_AT, fpr);
+    put_bank(words, REGISTERS_AT, r.gpr);
+    put_bank(words, FLOATING_AT, r.fpr);
     words[LR_AT] = r.lr;
     words[CR_AT] = r.cr as u64;
 }
@@ -193,10 +139,10 @@ fn put_frame(words: &mut [u64], i: usize, f: Frame)
     let at = RECORDS_AT + RECORD_WORDS * i;
     words[at] = f.first_gpr as u64;
     words[at + 1] = f.first_fpr as u64;
-    words[at + 2] = base_words::flag(f.saves_cr);
+    words[at + 2] = u64::from(f.saves_cr);
     words[at + 3] = f.locals as u64;
     words[at + 4] = f.outgoing as u64;
-    words[at + 5] = base_words::flag(f.leaf);
+    words[at + 5] = u64::from(f.leaf);
 }
 
 // All 32 records.
@@ -204,11 +150,8 @@ fn put_frames(words: &mut [u64], fs: [Frame; MAX_ENTERED])
     requires { length words.old ≡ machine_words }
     ensures { (words.new ≡ splice words.old records_at (frames_words fs)) × (length fs ≡ 32) }
 {
-    let mut i: usize = 0;
-    while i < MAX_ENTERED {
-        let f = fs[i];
-        put_frame(words, i, f);
-        i += 1;
+    for (i, f) in fs.iter().enumerate() {
+        put_frame(words, i, *f);
     }
 }
 
@@ -217,15 +160,12 @@ pub fn put_state(words: &mut [u64], s: State)
     requires { length words.old ≡ machine_words }
     ensures { words.new ≡ state_words s }
 {
-    let c = s.convention;
-    let registers = s.registers;
-    let frames = s.frames;
-    words[0] = base_conventions::code_of(c);
+    words[0] = u64::from(s.convention);
     words[1] = s.base;
     words[2] = s.size as u64;
     words[DEPTH_AT] = s.depth as u64;
-    put_registers(words, registers);
-    put_frames(words, frames);
+    put_registers(words, s.registers);
+    put_frames(words, s.frames);
 }
 
 // What an enter or a leave changes: the depth, the registers, and the record i.
@@ -233,9 +173,7 @@ pub fn put_changed(words: &mut [u64], s: State, i: usize)
     requires { (length words.old ≡ machine_words) × (i < max_entered) }
     ensures { words.new ≡ changed words.old s i }
 {
-    let registers = s.registers;
-    let f = s.frames[i];
     words[DEPTH_AT] = s.depth as u64;
-    put_registers(words, registers);
-    put_frame(words, i, f);
+    put_registers(words, s.registers);
+    put_frame(words, i, s.frames[i]);
 }

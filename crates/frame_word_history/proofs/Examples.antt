@@ -13,7 +13,7 @@ use Rattle.base_conventions.specs.declared.Convention.{Convention}
 use Rattle.base_conventions.specs.Numbers.{convention_code}
 use Rattle.base_conventions.specs.declared.Convention.TheVariants.{Ppc64, Z, Aix}
 use Rattle.frame_rules.specs.Frames.{with_pointer, all_within, lowered, ok_registers, cleared, ok_leaf, ok_request, below, full_size, frame_size, chain_width, gpr_at, saves_by, link_at, merge_fields, restored_lr, restored_cr, restored, bank_of, writable_register, with_register}
-use Rattle.frame_machine.specs.declared.FrameAnswer.TheVariants.{Accepted}
+use Rattle.std.specs.Prelude.{Ok}
 use Rattle.frame_machine.specs.Answers.{frame_answer_number, judge}
 use Rattle.frame_machine.specs.Machine.{top_frame, ok_frames, sizes, ok_memory, ok_state, start_answer, started, started_memory, enter_answer, entered, entered_memory, write_register_answer, written_register, leave_answer, left, start_outcome, start_memory, enter_outcome, enter_memory, write_register_outcome, leave_outcome}
 use Rattle.frame_word_layout.specs.Words.{registers_words, is_machine, depth_in, registers_in, frame_in, frames_in, state_in, register_words, frame_words, frames_words, state_words}
@@ -42,8 +42,8 @@ abbrev calls-leaf : List Call
 calls-leaf = calls (29 ∷ 30 ∷ 1 ∷ 0 ∷ 0 ∷ 1 ∷ []) 30
 
 -- Both starts are accepted. A leave is refused by 22 where nothing is entered. After the calls all the words are as the start left them.
-pub worked : ((start_outcome Ppc64 4096 640 (registers_in (replicate registers_words 7) 0)).answer ≡ Accepted)
-    × ((start_outcome Z 4096 640 (registers_in (replicate registers_words 7) 0)).answer ≡ Accepted)
+pub worked : ((start_outcome Ppc64 4096 640 (registers_in (replicate registers_words 7) 0)).answer ≡ Ok tt)
+    × ((start_outcome Z 4096 640 (registers_in (replicate registers_words 7) 0)).answer ≡ Ok tt)
     × (numbers calls-ppc64 (start Ppc64) ≡ 22 ∷ 0 ∷ 0 ∷ 0 ∷ 22 ∷ [])
     × (numbers calls-z (start Z) ≡ 22 ∷ 0 ∷ 0 ∷ 0 ∷ 22 ∷ [])
     × ((run calls-ppc64 (start Ppc64)).words ≡ (start Ppc64).words)
@@ -69,9 +69,9 @@ leave_with i c = frame_answer_number (answer leave (record { words = set (start 
 
 -- A start is accepted up to 2^32 - 1, with 288 bytes and no fewer. After the calls all the words are as the start left them. A state with 2^32 in the first or last general
 -- register or in LR is refused by 23, one with it in a floating register not; on PPC64 none is.
-pub worked-aix : ((start_outcome Aix (2 ^ 32 - 656) 640 (registers_in wide 0)).answer ≡ Accepted)
+pub worked-aix : ((start_outcome Aix (2 ^ 32 - 656) 640 (registers_in wide 0)).answer ≡ Ok tt)
     × (frame_answer_number (start_outcome Aix (2 ^ 32 - 640) 640 (registers_in wide 0)).answer ≡ 16)
-    × ((start_outcome Aix 4096 288 (registers_in wide 0)).answer ≡ Accepted)
+    × ((start_outcome Aix 4096 288 (registers_in wide 0)).answer ≡ Ok tt)
     × (frame_answer_number (start_outcome Aix 4096 272 (registers_in wide 0)).answer ≡ 16)
     × (numbers calls-aix start-aix ≡ 22 ∷ 0 ∷ 0 ∷ 0 ∷ 22 ∷ [])
     × ((run calls-aix start-aix).words ≡ start-aix.words)

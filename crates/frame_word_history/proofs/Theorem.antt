@@ -15,8 +15,8 @@ use Rattle.frame_rules.specs.Rules.{rules}
 use Rattle.frame_rules.specs.Frames.{no_frame, with_pointer, cleared}
 use Rattle.frame_rules.proofs.Halves.{lowered-length}
 use Rattle.frame_machine.specs.declared.State.{State}
-use Rattle.frame_machine.specs.declared.FrameAnswer.{FrameAnswer}
-use Rattle.frame_machine.specs.declared.FrameAnswer.TheVariants.{Accepted, Refused}
+use Rattle.frame_machine.specs.Answers.{FrameAnswer}
+use Rattle.std.specs.Prelude.{Ok, Err}
 use Rattle.frame_machine.specs.Answers.{settle}
 use Rattle.frame_machine.specs.Machine.{start_answer, start_outcome, started, not_started, enter_outcome, enter_memory, write_register_outcome, write_memory_outcome, leave_outcome}
 use Rattle.frame_word_layout.specs.Words.{machine_words, registers_words, registers_in, frame_in, state_in, state_words, register_words, with_registers}
@@ -55,8 +55,8 @@ unfolding changed
 changed-length ws s i = simp (length-splice, length-set)
 
 settle-length : (a : FrameAnswer) (x y : List ℕ) → length x ≡ length y → length (settle a x y) ≡ length y
-settle-length Accepted x y h = h
-settle-length (Refused r) x y h = refl
+settle-length (Ok tt) x y h = h
+settle-length (Err r) x y h = refl
 
 pub words-length : (c : Call) (m : Lent) → length (words_after c m) ≡ length m.words
 unfolding enter_words write_register_words leave_words
@@ -83,8 +83,8 @@ start-length c rs b n h = go (start_answer c b n)
     f = length_part (0 + 32) 32 rs (omega arith)
 
     go : (a : FrameAnswer) → length (settle a (state_words (settle a (started c b n (registers_in rs 0)) (not_started c (registers_in rs 0)))) (refused_words c rs)) ≡ machine_words
-    go Accepted = simp length-append (omega (arith, length-register-words (started c b n (registers_in rs 0)).registers (simp length-set (lowered-length (rules c).limit (part 0 32 rs) 32 ∙ g)) f, length-frames-words (replicate 32 no_frame)))
-    go (Refused x) = simp length-append (omega arith)
+    go (Ok tt) = simp length-append (omega (arith, length-register-words (started c b n (registers_in rs 0)).registers (simp length-set (lowered-length (rules c).limit (part 0 32 rs) 32 ∙ g)) f, length-frames-words (replicate 32 no_frame)))
+    go (Err x) = simp length-append (omega arith)
 
 -- ---- a list of calls
 

@@ -3,7 +3,7 @@
 -- (crates/c_starts/src/lib.rt, crates/c_frames/src/lib.rt). What a contract does not speak of is lent for reading only, and stays. Assumes nothing.
 use Rattle.std.specs.Prelude.{ℕ, List, [], ◌∷◌, length}
 use Rattle.base_conventions.specs.declared.Convention.{Convention}
-use Rattle.frame_machine.specs.declared.FrameAnswer.{FrameAnswer}
+use Rattle.frame_machine.specs.Answers.{FrameAnswer}
 use Rattle.frame_machine.specs.Machine.{start_memory, enter_outcome, enter_memory, write_register_outcome, write_memory_outcome, write_memory_memory, leave_outcome}
 use Rattle.frame_word_layout.specs.Words.{frame_in, state_in}
 use Rattle.frame_word_layout.specs.Calls.{start_words, enter_words, write_register_words, leave_words}

@@ -1,11 +1,10 @@
 -- Demand 3 of the exported calls: "a single claim about the whole list of calls". Document 01, "Frames"; `Demand3` is the claim with all that it asks for, of which
 -- `words-hold` in proofs/Theorem.antt is a value. What a leave keeps, and which enters are open, is said in crates/frame_history/specs/Preserved.antt of the state and the memory;
 -- here the state is what the lent words are read as. Assumes nothing.
-use Rattle.std.specs.Prelude.{ℕ, ◌^◌, ◌<◌, ◌≡◌, List, [], ◌∷◌, get_or, length}
+use Rattle.std.specs.Prelude.{ℕ, ◌^◌, ◌<◌, ◌≡◌, List, [], ◌∷◌, get_or, length, Ok}
 use Rattle.base_conventions.specs.declared.Convention.{Convention}
 use Rattle.frame_rules.specs.declared.FrameRules.{FrameRules}
 use Rattle.frame_rules.specs.Rules.{rules}
-use Rattle.frame_machine.specs.declared.FrameAnswer.TheVariants.{Accepted}
 use Rattle.frame_machine.specs.Machine.{start_outcome}
 use Rattle.frame_word_layout.specs.Words.{registers_words, registers_in, frame_in, state_in}
 use Rattle.frame_history.specs.Calls as states
@@ -53,5 +52,5 @@ pub record WordsFit (n : ℕ) (ws : List ℕ) : Type 0 where
 -- calls holds. `WordsFit` and `CallsFit` restrict nothing: `fz_registers` is 66 words of 64 bits (32 general and 32 floating registers, LR, and CR, of which the low 32 bits
 -- count), and the value of `fz_write_register` is one. Nothing is asked of the memory, its base, the requests and the bytes written; a refused start starts no list.
 abbrev pub Demand3 : Type 0
-Demand3 = (c : Convention) (b : ℕ) (l rs : List ℕ) → WordsFit registers_words rs → (start_outcome c b (length l) (registers_in rs 0)).answer ≡ Accepted → (cs : List Call) → CallsFit (calls_in cs)
+Demand3 = (c : Convention) (b : ℕ) (l rs : List ℕ) → WordsFit registers_words rs → (start_outcome c b (length l) (registers_in rs 0)).answer ≡ Ok tt → (cs : List Call) → CallsFit (calls_in cs)
     → Holds (rules c) cs [] (fresh c b l rs)

@@ -17,13 +17,13 @@ use Rattle.base_conventions.specs.declared.Convention.{Convention}
 use Rattle.base_conventions.specs.Numbers.{convention_code}
 use Rattle.frame_rules.specs.declared.FrameRules.{FrameRules}
 use Rattle.frame_rules.specs.declared.RegisterBank.{RegisterBank}
-use Rattle.frame_rules.specs.declared.RegisterBank.TheVariants.{General, Floating, Link, ConditionField, None}
+use Rattle.frame_rules.specs.declared.RegisterBank.TheVariants.{General, Floating, Link, ConditionField}
 use Rattle.frame_rules.specs.Helpers.{Named}
 use Rattle.frame_rules.specs.Rules.{rules}
 use Rattle.frame_rules.specs.Frames.{no_frame, frame_size, with_pointer, restored, bank_of, writable_register, with_condition_field, with_register}
 use Rattle.frame_rules.proofs.Conventions.{lawful}
 use Rattle.frame_rules.proofs.Writing.{writable-named}
-use Rattle.frame_machine.specs.declared.FrameAnswer.TheVariants.{Accepted}
+use Rattle.std.specs.Prelude.{Ok, Option, Some, None}
 use Rattle.frame_machine.specs.Machine.{state_rules, stack_pointer, offset, top, enter_answer, entered, enter_outcome, write_register_answer, written_register, write_register_outcome, leave_answer, left, leave_outcome}
 use Rattle.frame_machine.proofs.States.{enter-yes, write-register-yes, leave-yes}
 use Rattle.frame_word_layout.specs.Words.{machine_words, registers_at, is_known, is_machine, registers_in, frame_in, state_in, with_registers, with_frame}
@@ -89,7 +89,7 @@ pointer-small c = (lawful c).pointer
 
 module _ (ws : List ℕ) (n : ℕ) (qs : List ℕ) (l : length ws ≡ machine_words) where
   -- the depth, the stack pointer's word and the record
-  pub enter-changes : enter_answer (state_rules (state_in ws)) (state_in ws) n (frame_in qs 0) ≡ Accepted
+  pub enter-changes : enter_answer (state_rules (state_in ws)) (state_in ws) n (frame_in qs 0) ≡ Ok tt
       → enter_words ws n qs
       ≡ with_frame (set (set ws 3 ((state_in ws).depth + 1)) (4 + (state_rules (state_in ws)).pointer) (stack_pointer (state_rules (state_in ws)) (state_in ws) - frame_size (state_rules (state_in ws)) (frame_in qs 0))) (state_in ws).depth (frame_in qs 0)
   unfolding enter_words enter_outcome enter_answer entered changed state_in
@@ -107,32 +107,32 @@ module _ (ws : List ℕ) (n : ℕ) (qs : List ℕ) (l : length ws ≡ machine_wo
 -- ---- write
 
 -- the word that a register stands in, and what it holds after a write of v
-abbrev pub register_word : RegisterBank → ℕ → ℕ
-register_word General i = 4 + i
-register_word Floating i = 36 + i
-register_word Link i = 68
-register_word ConditionField i = 69
+abbrev pub register_word : Option RegisterBank → ℕ → ℕ
+register_word (Some General) i = 4 + i
+register_word (Some Floating) i = 36 + i
+register_word (Some Link) i = 68
+register_word (Some ConditionField) i = 69
 register_word None i = 0
 
-abbrev pub word_after : RegisterBank → ℕ → ℕ → ℕ → ℕ
-word_after General cr i v = v
-word_after Floating cr i v = v
-word_after Link cr i v = v
-word_after ConditionField cr i v = with_condition_field cr i v
+abbrev pub word_after : Option RegisterBank → ℕ → ℕ → ℕ → ℕ
+word_after (Some General) cr i v = v
+word_after (Some Floating) cr i v = v
+word_after (Some Link) cr i v = v
+word_after (Some ConditionField) cr i v = with_condition_field cr i v
 word_after None cr i v = v
 
 module _ (ws : List ℕ) (n b i v : ℕ) (l : length ws ≡ machine_words) where
-  one_word : (k : FrameRules) → is_machine ws ≡ true → (c : RegisterBank) → Named c i v → writable_register k (top k (state_in ws)) c i v ≡ true
+  one_word : (k : FrameRules) → is_machine ws ≡ true → (c : Option RegisterBank) → Named c i v → writable_register k (top k (state_in ws)) c i v ≡ true
       → with_registers ws (with_register (registers_in ws registers_at) c i v) ≡ set ws (register_word c i) (word_after c (get_or ws 69 0) i v)
   unfolding registers_in with_register writable_register
-  one_word k m General h w = rw (cr-kept ws l m) (general-put ws l m i v h)
-  one_word k m Floating h w = rw (cr-kept ws l m) (floating-put ws l m i v h)
-  one_word k m Link h w = rw (cr-kept ws l m) (lr-put ws l m v)
-  one_word k m ConditionField h w = rw (cr-kept ws l m) (cr-put ws l m (with_condition_field (get_or ws 69 0) i v))
+  one_word k m (Some General) h w = rw (cr-kept ws l m) (general-put ws l m i v h)
+  one_word k m (Some Floating) h w = rw (cr-kept ws l m) (floating-put ws l m i v h)
+  one_word k m (Some Link) h w = rw (cr-kept ws l m) (lr-put ws l m v)
+  one_word k m (Some ConditionField) h w = rw (cr-kept ws l m) (cr-put ws l m (with_condition_field (get_or ws 69 0) i v))
   one_word k m None h w = absurd (false≢true w)
 
   -- the one register's word
-  pub write-changes : write_register_answer (state_rules (state_in ws)) (state_in ws) n b i v ≡ Accepted
+  pub write-changes : write_register_answer (state_rules (state_in ws)) (state_in ws) n b i v ≡ Ok tt
       → write_register_words ws n b i v ≡ set ws (register_word (bank_of b) i) (word_after (bank_of b) (get_or ws 69 0) i v)
   unfolding write_register_words write_register_outcome write_register_answer written_register state_in
   write-changes e =
@@ -145,7 +145,7 @@ module _ (ws : List ℕ) (n b i v : ℕ) (l : length ws ≡ machine_words) where
 
 module _ (ws m : List ℕ) where
   -- the depth, the registers as restored, and the record
-  pub leave-changes : leave_answer (state_rules (state_in ws)) (state_in ws) m ≡ Accepted
+  pub leave-changes : leave_answer (state_rules (state_in ws)) (state_in ws) m ≡ Ok tt
       → leave_words ws m
       ≡ (let s = state_in ws in
       let k = state_rules s in

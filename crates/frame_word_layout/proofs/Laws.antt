@@ -4,10 +4,11 @@ use native.Mathlib.Numerals.{add-one}
 use native.Mathlib.Omega.{arith}
 use mathlib.Core.Path.{◌≡◌, refl, sym, ap, ◌∙◌}
 use mathlib.Core.List.{List, [], ◌∷◌, ◌++◌}
-use lib.ListN.{length, get_or, drop, set, replicate, length-append, take-append-drop, drop_of_length-le}
+use borrow.Rule.Slice.PartMut.{put_mid, mid_of}
+use lib.ListN.{length, length-drop, get_or, take, drop, set, replicate, length-append, take-append-drop, drop_of_length-le}
 use lib.Seq.{drop-cons, drop-drop, set-append_left}
 use Rattle.base_words.specs.Splice.{splice, part}
-use Rattle.base_words.proofs.Splices.{length_part, splice-one, splice-nothing, splice-append, splice-next, splice-whole, part-next}
+use Rattle.base_words.proofs.Splices.{length_part, overlay-is, splice-is, splice-one, splice-nothing, splice-append, splice-next, splice-whole, part-next}
 use Rattle.base_words.proofs.Basics.{set-behind}
 use Rattle.base_conventions.specs.declared.Convention.{Convention}
 use Rattle.base_conventions.specs.Numbers.{code_of}
@@ -16,8 +17,8 @@ use Rattle.frame_rules.specs.declared.Registers.{Registers}
 use Rattle.frame_rules.specs.Frames.{no_frame}
 use Rattle.frame_machine.specs.declared.State.{State}
 use Rattle.frame_machine.specs.declared.FrameRefusal.{FrameRefusal}
-use Rattle.frame_machine.specs.declared.FrameAnswer.{FrameAnswer}
-use Rattle.frame_machine.specs.declared.FrameAnswer.TheVariants.{Accepted, Refused}
+use Rattle.frame_machine.specs.Answers.{FrameAnswer}
+use Rattle.std.specs.Prelude.{Ok, Err}
 use Rattle.frame_machine.specs.Answers.{settle}
 use Rattle.frame_machine.specs.Machine.{state_rules, start_answer, started, not_started, start_outcome, enter_outcome, write_register_outcome, leave_outcome, left}
 use Rattle.frame_machine.proofs.States.{enter-yes, leave-yes}
@@ -35,26 +36,16 @@ pub length-register-words : (r : Registers) → length r.gpr ≡ 32 → length r
 unfolding register_words
 length-register-words r g h = simp length-append (omega arith)
 
--- ---- word by word
+-- ---- words copied
 
-module _ (l f : List ℕ) (at s n i : ℕ) (h : i < n) (k : s + n ≤ length f) where
-  pub copy-turn : splice (set l (at + i) (get_or f (s + i) 0)) (at + (i + 1)) (part (s + (i + 1)) (n - (i + 1)) f) ≡ splice l (at + i) (part (s + i) (n - i) f)
-  copy-turn =
-      let a : at + (i + 1) ≡ at + i + 1 = omega arith in
-      let b : s + (i + 1) ≡ s + i + 1 = omega arith in
-      let m : n - i ≡ suc (n - (i + 1)) = omega arith in
-      rw (a, b, m, part-next (s + i) (n - (i + 1)) f (omega arith)) (splice-next l (at + i) (get_or f (s + i) 0) (part (s + i + 1) (n - (i + 1)) f))
-
-pub copy_start : (l f : List ℕ) (at s n : ℕ) → splice l (at + 0) (part (s + 0) (n - 0) f) ≡ splice l at (part s n f)
-copy_start l f at s n =
-    let a : at + 0 ≡ at = omega arith in
-    let b : s + 0 ≡ s = omega arith in
-    let m : n - 0 ≡ n = omega arith in
-    cc
-
-pub copy-end : (k : ℕ) (l f : List ℕ) (at s : ℕ) → k ≤ 0 → splice l at (part s k f) ≡ l
-copy-end zero l f at s h = splice-nothing l at
-copy-end (suc k) l f at s h = absurd (omega arith)
+-- n words of f from s on, copied over those of l from `at` on; j and k are n as a slice's two ends give it
+pub copied : (l f xs : List ℕ) (at s n j k : ℕ) → j ≡ n → k ≡ n → at + n ≤ length l → s + n ≤ length f → xs ≡ mid_of s j f → put_mid at k l xs ≡ splice l at (part s n f)
+copied l f xs at s n j k p q h r e =
+    let long : length (part s n f) ≡ n = length_part s n f r in
+    let room : length (part s n f) ≤ length (drop at l) = omega (arith, length-drop at l, long) in
+    let put : splice l at (part s n f) ≡ take at l ++ (part s n f ++ drop (length (part s n f)) (drop at l))
+    = splice-is l at (part s n f) ∙ ap (λ (t : List ℕ). take at l ++ t) (overlay-is (drop at l) (part s n f) room) in
+    rw (e, p, q) (sym (rw long at put))
 
 splice-set : (l : List ℕ) (at j x : ℕ) (xs : List ℕ) → splice l (at + j) (x ∷ xs) ≡ splice (set l (at + j) x) (at + (j + 1)) xs
 splice-set l at j x xs = let e : at + (j + 1) ≡ at + j + 1 = omega arith in rw e (sym (splice-next l (at + j) x xs))
@@ -164,47 +155,47 @@ module _ (rs : List ℕ) (l : length rs ≡ registers_words) where
 
       go : (a : FrameAnswer) → settle a (state_words (settle a (started c b n r) (not_started c r))) (set (state_words (settle a (started c b n r) (not_started c r))) 69 (get_or rs 65 0))
           ≡ settle a (state_words (settle a (started c b n r) (not_started c r))) (refused_words c rs)
-      go Accepted = refl
-      go (Refused x) = refused-back c
+      go (Ok tt) = refl
+      go (Err x) = refused-back c
 
 -- ---- the words after a call
 
 module _ (ws : List ℕ) (n : ℕ) (qs : List ℕ) where
-  pub enter-depth : (enter_outcome (state_in ws) n (frame_in qs 0)).answer ≡ Accepted → (state_in ws).depth < 32
+  pub enter-depth : (enter_outcome (state_in ws) n (frame_in qs 0)).answer ≡ Ok tt → (state_in ws).depth < 32
   unfolding enter_outcome
   enter-depth h = (enter-yes (state_rules (state_in ws)) (state_in ws) n (frame_in qs 0) h).1.shallow
 
-  pub enter-yes-words : (enter_outcome (state_in ws) n (frame_in qs 0)).answer ≡ Accepted
+  pub enter-yes-words : (enter_outcome (state_in ws) n (frame_in qs 0)).answer ≡ Ok tt
       → changed ws (enter_outcome (state_in ws) n (frame_in qs 0)).state (state_in ws).depth ≡ enter_words ws n qs
   unfolding enter_words
   enter-yes-words h = rw h
 
-  pub enter-no-words : (x : FrameRefusal) → (enter_outcome (state_in ws) n (frame_in qs 0)).answer ≡ Refused x → ws ≡ enter_words ws n qs
+  pub enter-no-words : (x : FrameRefusal) → (enter_outcome (state_in ws) n (frame_in qs 0)).answer ≡ Err x → ws ≡ enter_words ws n qs
   unfolding enter_words
   enter-no-words x h = rw h
 
 module _ (ws : List ℕ) (n b i v : ℕ) where
-  pub write-yes-words : (write_register_outcome (state_in ws) n b i v).answer ≡ Accepted
+  pub write-yes-words : (write_register_outcome (state_in ws) n b i v).answer ≡ Ok tt
       → with_registers ws (write_register_outcome (state_in ws) n b i v).state.registers ≡ write_register_words ws n b i v
   unfolding write_register_words
   write-yes-words h = rw h
 
-  pub write-no-words : (x : FrameRefusal) → (write_register_outcome (state_in ws) n b i v).answer ≡ Refused x → ws ≡ write_register_words ws n b i v
+  pub write-no-words : (x : FrameRefusal) → (write_register_outcome (state_in ws) n b i v).answer ≡ Err x → ws ≡ write_register_words ws n b i v
   unfolding write_register_words
   write-no-words x h = rw h
 
 module _ (ws l : List ℕ) where
-  pub leave-depth : (leave_outcome (state_in ws) l).answer ≡ Accepted → (leave_outcome (state_in ws) l).state.depth < 32
+  pub leave-depth : (leave_outcome (state_in ws) l).answer ≡ Ok tt → (leave_outcome (state_in ws) l).state.depth < 32
   unfolding leave_outcome left
   leave-depth h =
       let can = leave-yes (state_rules (state_in ws)) (state_in ws) l h in
       rw h (omega (arith, can.deep, can.sound.shallow))
 
-  pub leave-yes-words : (leave_outcome (state_in ws) l).answer ≡ Accepted
+  pub leave-yes-words : (leave_outcome (state_in ws) l).answer ≡ Ok tt
       → changed ws (leave_outcome (state_in ws) l).state (leave_outcome (state_in ws) l).state.depth ≡ leave_words ws l
   unfolding leave_words
   leave-yes-words h = rw h
 
-  pub leave-no-words : (x : FrameRefusal) → (leave_outcome (state_in ws) l).answer ≡ Refused x → ws ≡ leave_words ws l
+  pub leave-no-words : (x : FrameRefusal) → (leave_outcome (state_in ws) l).answer ≡ Err x → ws ≡ leave_words ws l
   unfolding leave_words
   leave-no-words x h = rw h

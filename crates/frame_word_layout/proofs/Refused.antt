@@ -14,7 +14,7 @@ use Rattle.frame_rules.specs.declared.FrameRules.{FrameRules}
 use Rattle.frame_rules.specs.Rules.{rules}
 use Rattle.frame_rules.specs.Frames.{no_frame, ok_registers, ok_request}
 use Rattle.frame_machine.specs.declared.FrameRefusal.TheVariants.{BadState}
-use Rattle.frame_machine.specs.declared.FrameAnswer.TheVariants.{Refused}
+use Rattle.std.specs.Prelude.{Err}
 use Rattle.frame_machine.specs.Answers.{Requirement, judge}
 use Rattle.frame_machine.specs.Machine.{ok_frames, ok_memory, ok_state, state_tests}
 use Rattle.frame_word_layout.specs.Words.{registers_at, is_machine, depth_in, registers_in, frame_in, state_in}
@@ -25,12 +25,12 @@ unfolding ok_state state_in depth_in
 no-state k ws h = rw h (and_no (ok_registers k (registers_in ws registers_at)))
 
 -- every answer but a start's is of this form
-pub no-machine : (k : FrameRules) (ws : List ℕ) (n : ℕ) (ts : List Requirement) → is_machine ws ≡ false → judge (state_tests k (state_in ws) n ++ ts) ≡ Refused BadState
+pub no-machine : (k : FrameRules) (ws : List ℕ) (n : ℕ) (ts : List Requirement) → is_machine ws ≡ false → judge (state_tests k (state_in ws) n ++ ts) ≡ Err BadState
 unfolding judge
 no-machine k ws n ts h = rw (no-state k ws h)
 
 -- whatever the words rs handed in
-pub no_start : (c : Convention) (rs : List ℕ) (k : FrameRules) (n : ℕ) (ts : List Requirement) → judge (state_tests k (state_in (refused_words c rs)) n ++ ts) ≡ Refused BadState
+pub no_start : (c : Convention) (rs : List ℕ) (k : FrameRules) (n : ℕ) (ts : List Requirement) → judge (state_tests k (state_in (refused_words c rs)) n ++ ts) ≡ Err BadState
 unfolding judge ok_state ok_memory state_in refused_words
 no_start c rs k n ts =
     let s = state_in (refused_words c rs) in

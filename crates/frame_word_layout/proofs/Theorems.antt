@@ -20,7 +20,7 @@ use Rattle.frame_rules.specs.declared.Frame.{Frame}
 use Rattle.frame_rules.specs.declared.FrameRules.{FrameRules}
 use Rattle.frame_rules.specs.declared.Registers.{Registers}
 use Rattle.frame_rules.specs.declared.RegisterBank.{RegisterBank}
-use Rattle.frame_rules.specs.declared.RegisterBank.TheVariants.{General, Floating, Link, ConditionField, None}
+use Rattle.frame_rules.specs.declared.RegisterBank.TheVariants.{General, Floating, Link, ConditionField}
 use Rattle.frame_rules.specs.Helpers.{Named}
 use Rattle.frame_rules.specs.Rules.{rules}
 use Rattle.frame_rules.proofs.Halves.{lowered-length}
@@ -29,8 +29,8 @@ use Rattle.frame_rules.proofs.Conventions.{lawful}
 use Rattle.frame_rules.proofs.Writing.{field_fit, writable-named}
 use Rattle.frame_rules.proofs.Restoring.{cr-fit}
 use Rattle.frame_machine.specs.declared.State.{State}
-use Rattle.frame_machine.specs.declared.FrameAnswer.{FrameAnswer}
-use Rattle.frame_machine.specs.declared.FrameAnswer.TheVariants.{Accepted, Refused}
+use Rattle.frame_machine.specs.Answers.{FrameAnswer}
+use Rattle.std.specs.Prelude.{Ok, Err, Option, Some, None}
 use Rattle.frame_machine.specs.declared.FrameRefusal.TheVariants.{BadState}
 use Rattle.frame_machine.specs.Answers.{Requirement, judge, settle}
 use Rattle.frame_machine.specs.Machine.{state_rules, stack_pointer, offset, top, state_tests, start_answer, started, not_started, start_outcome, enter_answer, entered, write_register_answer, written_register, leave_answer, left, enter_outcome, write_register_outcome, leave_outcome}
@@ -44,7 +44,7 @@ use Rattle.frame_word_layout.proofs.ReadBack.{flag-back, cr-word, registers-same
 
 -- ---- what is read
 
-pub accepted-machine : (k : FrameRules) (ws : List ℕ) (n : ℕ) (ts : List Requirement) → judge (state_tests k (state_in ws) n ++ ts) ≡ Accepted → is_machine ws ≡ true
+pub accepted-machine : (k : FrameRules) (ws : List ℕ) (n : ℕ) (ts : List Requirement) → judge (state_tests k (state_in ws) n ++ ts) ≡ Ok tt → is_machine ws ≡ true
 accepted-machine k ws n ts e = go (is_machine ws) refl
   where
     go : (b : Bool) → is_machine ws ≡ b → is_machine ws ≡ true
@@ -140,7 +140,7 @@ module _ (c : Convention) (rs : List ℕ) (b n : ℕ) (l : length rs ≡ registe
   handed : Read (registers_in rs 0)
   handed = registers-read rs 0 (omega arith)
 
-  pub start-state : (start_outcome c b n (registers_in rs 0)).answer ≡ Accepted → state_in (start_words c rs b n) ≡ (start_outcome c b n (registers_in rs 0)).state
+  pub start-state : (start_outcome c b n (registers_in rs 0)).answer ≡ Ok tt → state_in (start_words c rs b n) ≡ (start_outcome c b n (registers_in rs 0)).state
   unfolding start_words start_outcome started with_pointer cleared
   start-state e = rw e (state-words-back (started c b n (registers_in rs 0)) (record { gpr = simp length-set (lowered-length (rules c).limit (registers_in rs 0).gpr 32 ∙ handed.gpr); fpr = handed.fpr; cr = handed.cr }) refl)
 
@@ -156,7 +156,7 @@ module _ (c : Convention) (rs : List ℕ) (b n : ℕ) (l : length rs ≡ registe
 -- ---- enter
 
 module _ (ws : List ℕ) (n : ℕ) (qs : List ℕ) (l : length ws ≡ machine_words) where
-  entered-back : enter_answer (state_rules (state_in ws)) (state_in ws) n (frame_in qs 0) ≡ Accepted
+  entered-back : enter_answer (state_rules (state_in ws)) (state_in ws) n (frame_in qs 0) ≡ Ok tt
       → state_in (changed ws (entered (state_rules (state_in ws)) (state_in ws) (frame_in qs 0)) (state_in ws).depth) ≡ entered (state_rules (state_in ws)) (state_in ws) (frame_in qs 0)
   unfolding entered with_pointer enter_answer
   entered-back e =
@@ -172,21 +172,21 @@ module _ (ws : List ℕ) (n : ℕ) (qs : List ℕ) (l : length ws ≡ machine_wo
   enter-state = go (enter_answer (state_rules (state_in ws)) (state_in ws) n (frame_in qs 0)) refl
     where
       go : (a : FrameAnswer) → enter_answer (state_rules (state_in ws)) (state_in ws) n (frame_in qs 0) ≡ a → state_in (enter_words ws n qs) ≡ (enter_outcome (state_in ws) n (frame_in qs 0)).state
-      go Accepted e = rw e (entered-back e)
-      go (Refused x) e = rw e
+      go (Ok tt) e = rw e (entered-back e)
+      go (Err x) e = rw e
 
 -- ---- write
 
-with-register-read : (r : Registers) (b : RegisterBank) (i v : ℕ) → Named b i v → Read r → Read (with_register r b i v)
+with-register-read : (r : Registers) (b : Option RegisterBank) (i v : ℕ) → Named b i v → Read r → Read (with_register r b i v)
 unfolding with_register
-with-register-read r General i v h y = record { gpr = simp length-set y.gpr; fpr = y.fpr; cr = y.cr }
-with-register-read r Floating i v h y = record { gpr = y.gpr; fpr = simp length-set y.fpr; cr = y.cr }
-with-register-read r Link i v h y = record { gpr = y.gpr; fpr = y.fpr; cr = y.cr }
-with-register-read r ConditionField i v h y = record { gpr = y.gpr; fpr = y.fpr; cr = field_fit i r.cr v h.1 y.cr h.0 }
+with-register-read r (Some General) i v h y = record { gpr = simp length-set y.gpr; fpr = y.fpr; cr = y.cr }
+with-register-read r (Some Floating) i v h y = record { gpr = y.gpr; fpr = simp length-set y.fpr; cr = y.cr }
+with-register-read r (Some Link) i v h y = record { gpr = y.gpr; fpr = y.fpr; cr = y.cr }
+with-register-read r (Some ConditionField) i v h y = record { gpr = y.gpr; fpr = y.fpr; cr = field_fit i r.cr v h.1 y.cr h.0 }
 with-register-read r None i v h y = y
 
 module _ (ws : List ℕ) (n b i v : ℕ) (l : length ws ≡ machine_words) where
-  written_back : write_register_answer (state_rules (state_in ws)) (state_in ws) n b i v ≡ Accepted
+  written_back : write_register_answer (state_rules (state_in ws)) (state_in ws) n b i v ≡ Ok tt
       → state_in (with_registers ws (written_register (state_in ws) b i v).registers) ≡ written_register (state_in ws) b i v
   unfolding written_register write_register_answer
   written_back e =
@@ -201,8 +201,8 @@ module _ (ws : List ℕ) (n b i v : ℕ) (l : length ws ≡ machine_words) where
   write-register-state = go (write_register_answer (state_rules (state_in ws)) (state_in ws) n b i v) refl
     where
       go : (a : FrameAnswer) → write_register_answer (state_rules (state_in ws)) (state_in ws) n b i v ≡ a → state_in (write_register_words ws n b i v) ≡ (write_register_outcome (state_in ws) n b i v).state
-      go Accepted e = rw e (written_back e)
-      go (Refused x) e = rw e
+      go (Ok tt) e = rw e (written_back e)
+      go (Err x) e = rw e
 
 -- ---- leave
 
@@ -215,7 +215,7 @@ restored-read k f s m p r y = record {
 }
 
 module _ (ws m : List ℕ) (l : length ws ≡ machine_words) where
-  left_back : leave_answer (state_rules (state_in ws)) (state_in ws) m ≡ Accepted
+  left_back : leave_answer (state_rules (state_in ws)) (state_in ws) m ≡ Ok tt
       → state_in (changed ws (left (state_rules (state_in ws)) (state_in ws) m) (left (state_rules (state_in ws)) (state_in ws) m).depth) ≡ left (state_rules (state_in ws)) (state_in ws) m
   unfolding left leave_answer
   left_back e =
@@ -233,5 +233,5 @@ module _ (ws m : List ℕ) (l : length ws ≡ machine_words) where
   leave-state = go (leave_answer (state_rules (state_in ws)) (state_in ws) m) refl
     where
       go : (a : FrameAnswer) → leave_answer (state_rules (state_in ws)) (state_in ws) m ≡ a → state_in (leave_words ws m) ≡ (leave_outcome (state_in ws) m).state
-      go Accepted e = rw e (left_back e)
-      go (Refused x) e = rw e
+      go (Ok tt) e = rw e (left_back e)
+      go (Err x) e = rw e

@@ -3,10 +3,10 @@
 -- general and the first floating register saved, whether CR is (0 or 1), locals, outgoing, whether it is a leaf (0 or 1). The layout is ours; what it holds is document 01's, "Frames", and
 -- document 02's, No. 9.
 -- Assumes nothing.
-use Rattle.std.specs.Prelude.{ℕ, zero, suc, ◌+◌, ◌-◌, ◌*◌, ◌%◌, ◌^◌, Bool, true, false, ◌&&◌, List, [], ◌∷◌, ◌++◌, get_or, set, leb, eqb}
+use Rattle.base_conventions.specs.declared.UnknownConvention.{UnknownConvention}
+use Rattle.std.specs.Prelude.{ℕ, zero, suc, ◌+◌, ◌-◌, ◌*◌, ◌%◌, ◌^◌, Bool, true, false, ◌&&◌, List, [], ◌∷◌, ◌++◌, get_or, set, leb, eqb, Ok, Err, Result}
 use Rattle.base_words.specs.Splice.{splice, part}
 use Rattle.base_conventions.specs.declared.Convention.{Convention}
-use Rattle.base_conventions.specs.declared.ConventionCode.{ConventionCode}
 use Rattle.base_conventions.specs.Numbers.{code_of, convention_code}
 use Rattle.frame_rules.specs.declared.Frame.{Frame}
 use Rattle.frame_rules.specs.declared.Registers.{Registers}
@@ -50,13 +50,13 @@ cr_in = 65
 -- ---- reading
 
 -- a code's convention; where it is no convention's code some one stands there, and `is_machine` says no
-abbrev pub convention_of : ConventionCode → Convention
-convention_of (ConventionCode.Known c) = c
-convention_of ConventionCode.Unknown = Convention.Z
+abbrev pub convention_of : Result Convention UnknownConvention → Convention
+convention_of (Ok c) = c
+convention_of (Err _) = Convention.Z
 
-abbrev pub is_known : ConventionCode → Bool
-is_known (ConventionCode.Known c) = true
-is_known ConventionCode.Unknown = false
+abbrev pub is_known : Result Convention UnknownConvention → Bool
+is_known (Ok c) = true
+is_known (Err _) = false
 
 -- Are the words a machine's? Not where word 0 is no convention's code, or CR's word no 32-bit word ("CR is one 32-bit word").
 unfoldable pub is_machine : List ℕ → Bool

@@ -10,7 +10,7 @@ use plan_places::{ByteRange, RegisterRange, Span};
 // The words of an entry.
 pub const ENTRY: usize = 13;
 
-// Where a result is, 0 nowhere, 1 in registers, 2 in memory; and its registers, or the one with its address.
+// Where a result is, 0 nowhere, 1 in registers, 2 in memory; and its registers, or the one with its address. The C interface has these numbers.
 #[derive(Clone, Copy)]
 pub struct ResultWords {
     pub kind: u64,
@@ -24,20 +24,14 @@ pub struct ResultWords {
 fn first_word(r: RegisterRange) -> u16
     ensures { result ≡ first_word r }
 {
-    if r.count == 0 {
-        return 0;
-    }
-    r.first as u16
+    if r.count == 0 { 0 } else { u16::from(r.first) }
 }
 
 // The first byte of a range; 0 where there is none.
 fn start_word(r: ByteRange) -> u16
     ensures { result ≡ start_word r }
 {
-    if r.length == 0 {
-        return 0;
-    }
-    r.start
+    if r.length == 0 { 0 } else { r.start }
 }
 
 // The entry of one argument, at the head of `kept`: 16 bits are enough for each of its words.
@@ -45,24 +39,19 @@ fn put_entry(kept: &mut [u16], item: usize, size: usize, value: usize, s: Span)
     requires { (entry_length ≤ length kept.old) × (item < 2 ^ 16) × (size < 2 ^ 16) × (value < 2 ^ 16) }
     ensures { kept.new ≡ overlay kept.old (entry_words item size value s) }
 {
-    let general = s.general;
-    let floating = s.floating;
-    let home = s.home;
-    let memory = s.memory;
-    let copy = s.copy;
     kept[0] = item as u16;
     kept[1] = size as u16;
     kept[2] = value as u16;
-    kept[3] = first_word(general);
-    kept[4] = general.count as u16;
-    kept[5] = first_word(floating);
-    kept[6] = floating.count as u16;
-    kept[7] = start_word(home);
-    kept[8] = home.length;
-    kept[9] = start_word(memory);
-    kept[10] = memory.length;
-    kept[11] = start_word(copy);
-    kept[12] = copy.length;
+    kept[3] = first_word(s.general);
+    kept[4] = u16::from(s.general.count);
+    kept[5] = first_word(s.floating);
+    kept[6] = u16::from(s.floating.count);
+    kept[7] = start_word(s.home);
+    kept[8] = s.home.length;
+    kept[9] = start_word(s.memory);
+    kept[10] = s.memory.length;
+    kept[11] = start_word(s.copy);
+    kept[12] = s.copy.length;
 }
 
 // The entry of argument i among those that are kept.
@@ -74,12 +63,6 @@ pub fn keep_entry(kept: &mut [u16], i: usize, item: usize, size: usize, value: u
     put_entry(&mut kept[at..], item, size, value, s);
 }
 
-fn wide(word: u16) -> u64
-    ensures { result ≡ word }
-{
-    word as u64
-}
-
 // The first n words that are kept, at the head of the table; one that is too short for them is left as it was.
 pub fn write_table(table: &mut [u64], kept: &[u16], n: usize)
     requires { n ≤ length kept.now }
@@ -88,9 +71,7 @@ pub fn write_table(table: &mut [u64], kept: &[u16], n: usize)
     if table.len() < n {
         return;
     }
-    let mut i: usize = 0;
-    while i < n {
-        table[i] = wide(kept[i]);
-        i = i + 1;
+    for (i, word) in kept[..n].iter().enumerate() {
+        table[i] = u64::from(*word);
     }
 }

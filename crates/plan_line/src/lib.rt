@@ -2,7 +2,7 @@
 // it is passed by a pointer to a copy.
 #![tactic(auto)]
 
-ghost use Rattle.std.specs.Prelude.{◌++◌, ◌+◌, ◌^◌, ◌≤◌, ◌<◌};
+ghost use Rattle.std.specs.Prelude.{◌≡◌, ◌++◌, ◌+◌, ◌^◌, ◌≤◌, ◌<◌, length};
 ghost use Rattle.plan_places.specs.Places.{registers_of, Numbered};
 ghost use Rattle.plan_text.specs.Decimals.{decimal};
 ghost use Rattle.plan_text.specs.Writing.{Wrote};
@@ -13,13 +13,12 @@ use base_conventions::Convention;
 use plan_places::{Bank, Place, Span};
 use plan_text::{put_byte, put_bytes, put_decimal, put_labelled};
 
-fn put_mark(text: &mut [u8], at: usize, bank: Bank) -> usize
-    requires { at < 2 ^ 32 }
-    ensures { Wrote text.old text.new at result (mark_of bank) × (result ≤ at + 2) }
+fn mark_of(bank: Bank) -> &'static [u8]
+    ensures { (result.now ≡ mark_of bank) × (length result.now ≤ 2) }
 {
     match bank {
-        Bank::General => put_bytes(text, at, b" r"),
-        Bank::Floating => put_bytes(text, at, b" f"),
+        Bank::General => b" r",
+        Bank::Floating => b" f",
     }
 }
 
@@ -29,7 +28,7 @@ fn put_place(text: &mut [u8], at: usize, p: Place) -> usize
 {
     match p {
         Place::Register { bank, number } => {
-            let next = put_mark(text, at, bank);
+            let next = put_bytes(text, at, mark_of(bank));
             put_decimal(text, next, number as usize)
         }
         Place::Memory { offset: _ } => put_bytes(text, at, b" mem"),
@@ -40,15 +39,11 @@ pub fn put_registers(text: &mut [u8], at: usize, s: Span) -> usize
     requires { (at < 2 ^ 30) × Numbered s }
     ensures { Wrote text.old text.new at result (places_text (registers_of s)) × (result ≤ at + 2000) }
 {
-    let floating = s.floating;
-    let general = s.general;
-    let count = floating.count as usize + general.count as usize;
+    let count = s.floating.count as usize + s.general.count as usize;
     let mut next = at;
-    let mut i: usize = 0;
-    while i < count {
+    for i in 0..count {
         let p = plan_places::register_of(s, i);
         next = put_place(text, next, p);
-        i = i + 1;
     }
     next
 }
@@ -58,9 +53,14 @@ fn put_memory(text: &mut [u8], at: usize, s: Span) -> usize
     ensures { Wrote text.old text.new at result (memory_text s) × (result ≤ at + 22) }
 {
     let memory = s.memory;
-    let offset = memory.start;
     if 0 < memory.length {
-        return put_place(text, at, Place::Memory { offset });
+        return put_place(
+            text,
+            at,
+            Place::Memory {
+                offset: memory.start,
+            },
+        );
     }
     at
 }
@@ -76,15 +76,14 @@ fn put_offset(text: &mut [u8], at: usize, c: Convention, s: Span) -> usize
     requires { at < 2 ^ 31 }
     ensures { Wrote text.old text.new at result (offset_text c s) × (result ≤ at + 22) }
 {
-    let home = s.home;
     let memory = s.memory;
     match c {
-        Convention::Ppc64 => put_at(text, at, home.start as usize),
-        Convention::Aix => put_at(text, at, home.start as usize),
-        Convention::Ppc64b => put_at(text, at, home.start as usize),
+        Convention::Ppc64 | Convention::Aix | Convention::Ppc64b => {
+            put_at(text, at, s.home.start as usize)
+        }
         Convention::Z => {
             if 0 < memory.length {
-                return put_at(text, at, both_abi::Z::HEADER + home.start as usize);
+                return put_at(text, at, both_abi::Z::HEADER + s.home.start as usize);
             }
             at
         }

@@ -1,10 +1,9 @@
 -- The printed plan of a signature, line by line. Document 01, "Sums to check against". Assumes nothing.
-use Rattle.std.specs.Prelude.{ℕ, suc, Bool, List, [], ◌∷◌, ◌++◌, take}
+use Rattle.std.specs.Prelude.{ℕ, suc, Bool, List, [], ◌∷◌, ◌++◌, take, Ok, Err, Result}
 use Rattle.base_words.specs.Basics.{pick}
 use Rattle.base_conventions.specs.declared.Convention.{Convention}
 use Rattle.sig_items.specs.declared.Fault.{Fault}
 use Rattle.sig_items.specs.Refusals.{refusal_number}
-use Rattle.sig_signatures.specs.declared.Outcome.{Outcome}
 use Rattle.plan_places.specs.declared.Span.{Span}
 use Rattle.plan_places.specs.declared.ResultPlaces.{ResultPlaces}
 use Rattle.plan_places.specs.Places.{registers_of}
@@ -53,9 +52,9 @@ accepted_text p =
     head_text p.convention p.ellipsis p.count p.area
     ++ (lines_text p.convention 0 (take p.count p.spans) ++ result_text p.result)
 
-abbrev pub plan_text_by : Outcome → Plan → List ℕ
-plan_text_by (Outcome.Accepted n) p = accepted_text p
-plan_text_by (Outcome.Refused f) p = refusal_text f
+abbrev pub plan_text_by : Result ℕ Fault → Plan → List ℕ
+plan_text_by (Ok n) p = accepted_text p
+plan_text_by (Err f) p = refusal_text f
 
 unfoldable pub plan_text_of : Plan → List ℕ
 plan_text_of p = plan_text_by p.outcome p

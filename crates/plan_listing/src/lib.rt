@@ -2,12 +2,15 @@
 // it was.
 #![tactic(auto)]
 
-ghost use Rattle.std.specs.Prelude.{◌≡◌, ◌+◌, ◌^◌, ◌≤◌, ◌<◌, length};
+ghost use Rattle.std.specs.Prelude.{◌≡◌, ℕ, ◌+◌, ◌^◌, ◌≤◌, ◌<◌, length};
 ghost use Rattle.base_words.specs.Splice.{overlay_whole};
 ghost use Rattle.plan_places.specs.Helpers.{ResultNumbered};
 ghost use Rattle.plan_text.specs.Writing.{Wrote};
-ghost use Rattle.plan_listing.specs.Text.{name_of, ellipsis_text, head_text, result_places_text, result_text, refusal_text, accepted_text, plan_text_of, listing_of};
+ghost use Rattle.plan_listing.specs.Text.{name_of, ellipsis_text, head_text, result_places_text, result_text, refusal_text, accepted_text, plan_text_by, listing_of};
+ghost use Rattle.plan_plans.specs.Call.{outcome_for};
 ghost use Rattle.plan_plans.specs.Helpers.{Printable};
+ghost use Rattle.sig_signatures.specs.Read.{signature_of};
+ghost use Rattle.sig_signatures.specs.Answer.{signature_answer};
 
 use base_conventions::Convention;
 use plan_line::{put_line, put_registers};
@@ -15,17 +18,16 @@ use plan_places::ResultPlaces;
 use plan_plans::Plan;
 use plan_text::{put_byte, put_bytes, put_labelled};
 use sig_items::Fault;
-use sig_signatures::Outcome;
+use sig_signatures::SignatureRead;
 
-fn put_name(text: &mut [u8], at: usize, c: Convention) -> usize
-    requires { at < 2 ^ 31 }
-    ensures { Wrote text.old text.new at result (name_of c) × (result ≤ at + 6) }
+fn name_of(c: Convention) -> &'static [u8]
+    ensures { (result.now ≡ name_of c) × (length result.now ≤ 6) }
 {
     match c {
-        Convention::Ppc64 => put_bytes(text, at, b"PPC64"),
-        Convention::Z => put_bytes(text, at, b"Z"),
-        Convention::Aix => put_bytes(text, at, b"AIX"),
-        Convention::Ppc64b => put_bytes(text, at, b"PPC64B"),
+        Convention::Ppc64 => b"PPC64",
+        Convention::Z => b"Z",
+        Convention::Aix => b"AIX",
+        Convention::Ppc64b => b"PPC64B",
     }
 }
 
@@ -51,7 +53,7 @@ fn put_head(
     requires { at < 2 ^ 30 }
     ensures { Wrote text.old text.new at result (head_text c ellipsis args area) × (result ≤ at + 64) }
 {
-    let a = put_name(text, at, c);
+    let a = put_bytes(text, at, name_of(c));
     let b = put_labelled(text, a, b" args ", args);
     let d = put_labelled(text, b, b" area ", area);
     let e = put_ellipsis(text, d, ellipsis);
@@ -85,8 +87,7 @@ fn put_result(text: &mut [u8], at: usize, r: ResultPlaces) -> usize
 fn put_refusal(text: &mut [u8], fault: Fault) -> usize
     ensures { Wrote text.old text.new 0 result (refusal_text fault) }
 {
-    let reason = fault.reason;
-    let number = sig_items::refusal_number(reason) as usize;
+    let number = u64::from(fault.reason) as usize;
     let a = put_labelled(text, 0, b"refused ", number);
     let b = put_labelled(text, a, b" at ", fault.place);
     let d = put_labelled(text, b, b" after ", fault.passed);
@@ -94,32 +95,36 @@ fn put_refusal(text: &mut [u8], fault: Fault) -> usize
 }
 
 // The lines of an accepted plan.
-fn put_lines(text: &mut [u8], p: Plan) -> usize
-    requires { Printable p }
-    ensures { Wrote text.old text.new 0 result (accepted_text p) }
+fn put_lines(text: &mut [u8], p: &Plan) -> usize
+    requires { Printable p.now }
+    ensures { Wrote text.old text.new 0 result (accepted_text p.now) }
 {
-    let c = p.convention;
-    let count = p.count;
-    let result = p.result;
-    let mut next = put_head(text, 0, c, p.ellipsis, count, p.area);
-    let mut i: usize = 0;
-    while i < count {
-        let s = p.spans[i];
-        next = put_line(text, next, c, i, s);
-        i = i + 1;
+    let mut next = put_head(text, 0, p.convention, p.ellipsis, p.count, p.area);
+    for (i, s) in p.spans[..p.count].iter().enumerate() {
+        next = put_line(text, next, p.convention, i, *s);
     }
-    put_result(text, next, result)
+    put_result(text, next, p.result)
 }
 
-fn put_plan(text: &mut [u8], p: Plan) -> usize
-    requires { Printable p }
-    ensures { Wrote text.old text.new 0 result (plan_text_of p) }
+// A refused call has no lines of a plan: its plan is not looked at.
+fn put_plan(text: &mut [u8], outcome: Result<usize, Fault>, p: &Plan) -> usize
+    requires { (n : ℕ) → outcome ≡ Ok n → Printable p.now }
+    ensures { Wrote text.old text.new 0 result (plan_text_by outcome p.now) }
 {
-    let outcome = p.outcome;
     match outcome {
-        Outcome::Accepted(_) => put_lines(text, p),
-        Outcome::Refused(fault) => put_refusal(text, fault),
+        Ok(_) => put_lines(text, p),
+        Err(fault) => put_refusal(text, fault),
     }
+}
+
+// What a call is accepted or refused with.
+// Never inlined: its stack is given back before the plan is made, so a call keeps to the stack that the header states.
+#[inline(never)]
+fn outcome_of(s: &[u8], g: SignatureRead) -> Result<usize, Fault>
+    requires { g ≡ signature_answer (signature_of s.now) }
+    ensures { result ≡ outcome_for s.now }
+{
+    plan_planning::call_outcome(s, g)
 }
 
 // The printed plan of a signature's bytes, any bytes at all, at the head of `text`; its length is returned. Where `text` is
@@ -127,11 +132,13 @@ fn put_plan(text: &mut [u8], p: Plan) -> usize
 pub fn listing(s: &[u8], text: &mut [u8]) -> usize
     ensures { (result ≡ length (listing_of s.now)) × (text.new ≡ overlay_whole text.old (listing_of s.now)) }
 {
-    let p = plan_planning::plan_of(s);
+    let g = sig_whole::read_signature(s);
+    let outcome = outcome_of(s, g);
+    let p = plan_planning::plan_signature(g);
     let mut unused = [0u8; 1];
-    let length = put_plan(&mut unused, p);
+    let length = put_plan(&mut unused, outcome, &p);
     if text.len() < length {
         return length;
     }
-    put_plan(text, p)
+    put_plan(text, outcome, &p)
 }

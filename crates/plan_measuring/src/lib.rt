@@ -11,15 +11,16 @@ ghost use Rattle.plan_plans.specs.Call.{call_of};
 
 use base_conventions::Convention;
 use plan_plans::Measured;
-use sig_items::{Fault, ItemRead, Refusal};
-use sig_signatures::{HeadRead, MAX_ARGUMENTS, Outcome, ResultType};
+use sig_items::{Fault, Item, Refusal};
+use sig_signatures::{Head, MAX_ARGUMENTS};
+use sig_types::ValueType;
 
 // The sizes by the reading alone, from the arguments on, which stand from `at` to `end`; `earlier` items came before theirs. Each is read, placed and
 // let go: no table is made. No size depends on an ellipsis, so that none is asked for.
 fn measure_plain(
     s: &[u8],
     convention: Convention,
-    returned: ResultType,
+    returned: Option<ValueType>,
     at: usize,
     end: usize,
     earlier: usize,
@@ -30,10 +31,10 @@ fn measure_plain(
     let rules = both_abi::call_rules_of(convention);
     let hidden = plan_planning::hidden_in(convention, returned);
     let mut c = plan_placing::start(convention, hidden);
-    let mut values: usize = 0;
-    let mut count: usize = 0;
+    let mut values = 0;
+    let mut count = 0;
     let mut place = at;
-    let mut items: usize = 1;
+    let mut items = 1;
     while place < end {
         if count == MAX_ARGUMENTS {
             return plan_planning::no_measure(Fault {
@@ -43,19 +44,21 @@ fn measure_plain(
             });
         }
         match sig_nested_items::read_item(s, convention, place, end, sig_types::MAX_DEPTH) {
-            ItemRead::Item {
-                ty,
-                next,
-                items: more,
-            } => {
+            Ok(
+                Item {
+                    ty,
+                    next,
+                    items: more,
+                },
+            ) => {
                 let size = sig_types::size_of(convention, ty);
                 c = plan_placing::advance(rules, c, ty, size);
-                values = values + size;
-                count = count + 1;
+                values += size;
+                count += 1;
                 place = next;
-                items = items + more;
+                items += more;
             }
-            ItemRead::Refused(fault) => {
+            Err(fault) => {
                 return plan_planning::no_measure(sig_items::later_by(earlier + items, fault));
             }
         }
@@ -70,7 +73,7 @@ fn measure_plain(
     }
     let area = plan_placing::area_of(convention, c);
     Measured {
-        outcome: Outcome::Accepted(counted),
+        outcome: Ok(counted),
         area,
         values,
         copies: c.copies,
@@ -97,7 +100,7 @@ fn not_passed(fault: Fault) -> Passed
 fn measure_arguments(
     s: &[u8],
     convention: Convention,
-    returned: ResultType,
+    returned: Option<ValueType>,
     at: usize,
     end: usize,
     earlier: usize,
@@ -108,11 +111,11 @@ fn measure_arguments(
     let rules = both_abi::call_rules_of(convention);
     let hidden = plan_planning::hidden_in(convention, returned);
     let mut c = plan_placing::start(convention, hidden);
-    let mut values: usize = 0;
-    let mut unclear: usize = 0;
-    let mut count: usize = 0;
+    let mut values = 0;
+    let mut unclear = 0;
+    let mut count = 0;
     let mut next = at;
-    let mut items: usize = 1;
+    let mut items = 1;
     while next < end {
         if count == MAX_ARGUMENTS {
             return not_passed(Fault {
@@ -122,20 +125,22 @@ fn measure_arguments(
             });
         }
         match sig_nested_items::read_item(s, convention, next, end, sig_types::MAX_DEPTH) {
-            ItemRead::Item {
-                ty,
-                next: after,
-                items: more,
-            } => {
+            Ok(
+                Item {
+                    ty,
+                    next: after,
+                    items: more,
+                },
+            ) => {
                 let bytes = sig_types::size_of(convention, ty);
                 unclear = plan_placing::unclear_after(unclear, rules, c, ty, count);
                 c = plan_placing::advance(rules, c, ty, bytes);
-                values = values + bytes;
-                count = count + 1;
+                values += bytes;
+                count += 1;
                 next = after;
-                items = items + more;
+                items += more;
             }
-            ItemRead::Refused(fault) => {
+            Err(fault) => {
                 return not_passed(sig_items::later_by(earlier + items, fault));
             }
         }
@@ -151,7 +156,7 @@ fn measure_arguments(
     let area = plan_placing::area_of(convention, c);
     Passed {
         measured: Measured {
-            outcome: Outcome::Accepted(counted),
+            outcome: Ok(counted),
             area,
             values,
             copies: c.copies,
@@ -164,18 +169,17 @@ fn measure_arguments(
 fn judged(s: &[u8], a: Passed) -> Measured
     ensures { result ≡ measured_by a.unclear a.measured (signature_of s.now) }
 {
-    let unclear = a.unclear;
-    if unclear == 0 {
+    if a.unclear == 0 {
         return a.measured;
     }
-    plan_planning::no_measure(sig_reader::unclear_fault(s, unclear - 1))
+    plan_planning::no_measure(sig_reader::unclear_fault(s, a.unclear - 1))
 }
 
 // The sizes of a call, from the arguments on: where the rules are always clear, no argument is looked at for that.
 fn measure_call(
     s: &[u8],
     convention: Convention,
-    returned: ResultType,
+    returned: Option<ValueType>,
     at: usize,
     end: usize,
     earlier: usize,
@@ -195,34 +199,15 @@ pub fn measure(s: &[u8]) -> Measured
     ensures { result ≡ measure_of (plan_answer (call_of s.now)) }
 {
     match sig_head::read_head(s) {
-        HeadRead::Refused(fault) => plan_planning::no_measure(fault),
-        HeadRead::Head {
-            convention,
-            result,
-            ellipsis,
-            at,
-            end,
-            earlier,
-        } => measure_call(s, convention, result, at, end, earlier),
+        Err(fault) => plan_planning::no_measure(fault),
+        Ok(h) => measure_call(s, h.convention, h.result, h.at, h.end, h.earlier),
     }
 }
 
 // The outcome of reading a signature's bytes: any bytes at all. No place refuses it.
-pub fn outcome_of(s: &[u8]) -> Outcome
+pub fn outcome_of(s: &[u8]) -> Result<usize, Fault>
     ensures { result ≡ (signature_answer (signature_of s.now)).outcome }
 {
-    match sig_head::read_head(s) {
-        HeadRead::Refused(fault) => Outcome::Refused(fault),
-        HeadRead::Head {
-            convention,
-            result,
-            ellipsis,
-            at,
-            end,
-            earlier,
-        } => {
-            let m = measure_plain(s, convention, result, at, end, earlier);
-            m.outcome
-        }
-    }
+    let h = sig_head::read_head(s)?;
+    measure_plain(s, h.convention, h.result, h.at, h.end, h.earlier).outcome
 }

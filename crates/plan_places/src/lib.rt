@@ -16,14 +16,14 @@ pub const IMAGE_BYTES: usize = 512;
 pub const FPRS_AT: usize = 256;
 
 // The edition of the PowerPC supplement. In the later one a long double takes two FPRs.
-#[derive(Clone, Copy)]
+#[derive(Clone, Copy, Debug, PartialEq, Eq)]
 pub enum Edition {
     Earlier,
     Later,
 }
 
 // What calls on PowerPC differ in: the bytes of a word of the argument list, the edition, and whether the call has an ellipsis.
-#[derive(Clone, Copy)]
+#[derive(Clone, Copy, Debug, PartialEq, Eq)]
 pub struct PowerRules {
     pub word: usize,
     pub edition: Edition,
@@ -31,14 +31,14 @@ pub struct PowerRules {
 }
 
 // A convention's rules for arguments and results.
-#[derive(Clone, Copy)]
+#[derive(Clone, Copy, Debug, PartialEq, Eq)]
 pub enum CallRules {
     Power(PowerRules),
     Z,
 }
 
 // What comes next: a general register, a floating register, a byte of the parameter area, a byte of the copies.
-#[derive(Clone, Copy)]
+#[derive(Clone, Copy, Debug, PartialEq, Eq)]
 pub struct Cursor {
     pub general: usize,
     pub floating: usize,
@@ -47,14 +47,14 @@ pub struct Cursor {
 }
 
 // Registers of one bank, one after the other.
-#[derive(Clone, Copy)]
+#[derive(Clone, Copy, Debug, PartialEq, Eq)]
 pub struct RegisterRange {
     pub first: u8,
     pub count: u8,
 }
 
 // Bytes of the parameter area or of the copies, one after the other.
-#[derive(Clone, Copy)]
+#[derive(Clone, Copy, Debug, PartialEq, Eq)]
 pub struct ByteRange {
     pub start: u16,
     pub length: u16,
@@ -79,14 +79,14 @@ pub struct Placed {
     pub next: Cursor,
 }
 
-#[derive(Clone, Copy)]
+#[derive(Clone, Copy, Debug, PartialEq, Eq)]
 pub enum Bank {
     General,
     Floating,
 }
 
 // One place of an argument: a register, or a word of memory at its offset in the parameter area.
-#[derive(Clone, Copy)]
+#[derive(Clone, Copy, Debug, PartialEq, Eq)]
 pub enum Place {
     Register { bank: Bank, number: u8 },
     Memory { offset: u16 },
@@ -101,7 +101,7 @@ pub enum ResultPlaces {
 }
 
 // Of the words of an argument on PowerPC: how many are in GPRs, and how many in memory. Of the FPRs: how many hold it.
-#[derive(Clone, Copy)]
+#[derive(Clone, Copy, Debug, PartialEq, Eq)]
 pub struct Share {
     pub general: usize,
     pub floating: usize,
@@ -109,7 +109,7 @@ pub struct Share {
 }
 
 // How Z passes an argument: as a float, as an integer, or as a pointer to a copy.
-#[derive(Clone, Copy)]
+#[derive(Clone, Copy, Debug, PartialEq, Eq)]
 pub enum ZClass {
     Float,
     Simple,
@@ -135,18 +135,12 @@ pub fn word_of(r: CallRules) -> usize
 }
 
 // The rules of a call with an ellipsis, or of one without.
+#[tactic(auto, unfolding(crate::specs::Step::with_ellipsis))]
 pub fn with_ellipsis(r: CallRules, ellipsis: bool) -> CallRules
     ensures { result ≡ with_ellipsis ellipsis r }
 {
     match r {
-        CallRules::Power(f) => {
-            let edition = f.edition;
-            CallRules::Power(PowerRules {
-                word: f.word,
-                edition: edition,
-                ellipsis: ellipsis,
-            })
-        }
+        CallRules::Power(f) => CallRules::Power(PowerRules { ellipsis, ..f }),
         CallRules::Z => CallRules::Z,
     }
 }
@@ -176,17 +170,15 @@ pub fn register_of(s: Span, i: usize) -> Place
     requires { (i < register_count s) × Numbered s }
     ensures { result ≡ get_or (registers_of s) i no_place }
 {
-    let floating = s.floating;
-    let general = s.general;
-    let floats = floating.count as usize;
+    let floats = s.floating.count as usize;
     if i < floats {
         return Place::Register {
             bank: Bank::Floating,
-            number: (floating.first as usize + i) as u8,
+            number: (s.floating.first as usize + i) as u8,
         };
     }
     Place::Register {
         bank: Bank::General,
-        number: (general.first as usize + (i - floats)) as u8,
+        number: (s.general.first as usize + (i - floats)) as u8,
     }
 }

@@ -4,7 +4,7 @@
 ghost use Rattle.std.specs.Prelude.{◌≡◌, true, ◌^◌, ◌≤◌, ◌<◌};
 ghost use Rattle.plan_places.specs.Values.{pointer};
 ghost use Rattle.plan_places.specs.Step.{rules_of, word_of, next_of, unclear_for, placed, fresh_cursor, start_of, area_of, returning, hidden_for, result_of};
-ghost use Rattle.plan_places.specs.Helpers.{LawfulCalls, Roomy, is_earlier, always_clear, unclear_after};
+ghost use Rattle.plan_places.specs.Helpers.{LawfulCalls, Roomy, always_clear, unclear_after};
 ghost use Rattle.sig_types.specs.Sizes.{max_size};
 
 use base_conventions::Convention;
@@ -44,24 +44,13 @@ pub fn unclear_for(r: CallRules, c: Cursor, t: ValueType) -> bool
     }
 }
 
-fn is_earlier(e: Edition) -> bool
-    ensures { result ≡ is_earlier e }
-{
-    match e {
-        Edition::Earlier => true,
-        Edition::Later => false,
-    }
-}
-
 // Whether the rules are clear wherever an argument stands.
+#[tactic(auto, unfolding(plan_places::specs::Helpers::always_clear))]
 pub fn always_clear(r: CallRules) -> bool
     ensures { result ≡ always_clear r }
 {
     match r {
-        CallRules::Power(f) => {
-            let edition = f.edition;
-            is_earlier(edition)
-        }
+        CallRules::Power(f) => matches!(f.edition, Edition::Earlier),
         CallRules::Z => true,
     }
 }
@@ -74,10 +63,7 @@ fn unclear_in(unclear: usize, r: CallRules, c: Cursor, t: ValueType, count: usiz
     if unclear != 0 {
         return unclear;
     }
-    if unclear_for(r, c, t) {
-        return count + 1;
-    }
-    0
+    if unclear_for(r, c, t) { count + 1 } else { 0 }
 }
 
 // The number of the first unclear argument, counted from 1, or 0: `unclear` is that of the first `count`, and one more of this type comes at the cursor.
@@ -138,10 +124,11 @@ pub fn start(c: Convention, hidden: bool) -> Cursor
 pub fn area_of(c: Convention, e: Cursor) -> usize
     ensures { result ≡ area_of c e }
 {
-    base_words::larger(both_abi::least_area_of(c), e.stack)
+    both_abi::least_area_of(c).max(e.stack)
 }
 
 // Whether a result of this type is handed over through memory.
+#[tactic(auto, unfolding(plan_places::specs::Step::hidden_for))]
 pub fn hidden_for(r: CallRules, t: ValueType) -> bool
     ensures { result ≡ hidden_for r t }
 {
@@ -149,24 +136,21 @@ pub fn hidden_for(r: CallRules, t: ValueType) -> bool
         ValueType::Integer(_) => false,
         ValueType::Float(f) => match r {
             CallRules::Power(_) => false,
-            CallRules::Z => match f {
-                FloatFormat::Single => false,
-                FloatFormat::Double => false,
-                FloatFormat::LongDouble => true,
-            },
+            CallRules::Z => matches!(f, FloatFormat::LongDouble),
         },
         ValueType::Struct(_) => true,
     }
 }
 
+#[tactic(auto, unfolding(plan_places::specs::Step::returning))]
 fn returning_of(r: CallRules) -> CallRules
     ensures { result ≡ returning r }
 {
     match r {
         CallRules::Power(f) => CallRules::Power(PowerRules {
-            word: f.word,
             edition: Edition::Later,
             ellipsis: false,
+            ..f
         }),
         CallRules::Z => CallRules::Z,
     }
@@ -178,11 +162,8 @@ pub fn result_places(c: Convention, t: ValueType, size: usize) -> ResultPlaces
 {
     let r = both_abi::call_rules_of(c);
     if hidden_for(r, t) {
-        let p = hidden_step(c);
-        let address = p.span;
-        return ResultPlaces::Hidden(address);
+        return ResultPlaces::Hidden(hidden_step(c).span);
     }
     let p = step(returning_of(r), both_abi::cursor_of(c), t, size);
-    let value = p.span;
-    ResultPlaces::Registers(value)
+    ResultPlaces::Registers(p.span)
 }

@@ -13,11 +13,12 @@ use base_conventions::Convention;
 use plan_places::{ByteRange, RegisterRange, ResultPlaces, Span};
 use plan_plans::{Measured, Plan};
 use sig_items::Fault;
-use sig_signatures::{MAX_ARGUMENTS, Outcome, ResultType, SignatureRead};
+use sig_signatures::{MAX_ARGUMENTS, SignatureRead};
+use sig_types::ValueType;
 
 // A plan without spans and sizes.
 fn blank(
-    outcome: Outcome,
+    outcome: Result<usize, Fault>,
     convention: Convention,
     ellipsis: bool,
     res: ResultPlaces,
@@ -55,7 +56,7 @@ pub fn no_measure(fault: Fault) -> Measured
     ensures { result ≡ measure_of (refused_plan fault) }
 {
     Measured {
-        outcome: Outcome::Refused(fault),
+        outcome: Err(fault),
         area: 0,
         values: 0,
         copies: 0,
@@ -63,22 +64,22 @@ pub fn no_measure(fault: Fault) -> Measured
 }
 
 // Whether a result is handed over through memory, at a hidden address.
-pub fn hidden_in(c: Convention, res: ResultType) -> bool
+pub fn hidden_in(c: Convention, res: Option<ValueType>) -> bool
     ensures { result ≡ hidden_in c res }
 {
     match res {
-        ResultType::Nothing => false,
-        ResultType::Value(t) => plan_placing::hidden_for(both_abi::call_rules_of(c), t),
+        None => false,
+        Some(t) => plan_placing::hidden_for(both_abi::call_rules_of(c), t),
     }
 }
 
-pub fn result_in(c: Convention, res: ResultType) -> ResultPlaces
+pub fn result_in(c: Convention, res: Option<ValueType>) -> ResultPlaces
     requires { SmallResult c res }
     ensures { result ≡ result_places_in c res }
 {
     match res {
-        ResultType::Nothing => ResultPlaces::Nothing,
-        ResultType::Value(t) => {
+        None => ResultPlaces::Nothing,
+        Some(t) => {
             let size = sig_types::size_of(c, t);
             plan_placing::result_places(c, t, size)
         }
@@ -92,33 +93,32 @@ pub fn plan_signature(g: SignatureRead) -> Plan
     requires { Plannable g }
     ensures { result ≡ planned g }
 {
-    let outcome = g.outcome;
-    match outcome {
-        Outcome::Refused(_) => blank(outcome, Convention::Ppc64, false, ResultPlaces::Nothing, 0),
-        Outcome::Accepted(_) => {
-            let convention = g.convention;
-            let returned = g.result;
-            let ellipsis = g.ellipsis;
-            let count = g.count;
-            let rules = plan_places::with_ellipsis(both_abi::call_rules_of(convention), ellipsis);
-            let hidden = hidden_in(convention, returned);
-            let result = result_in(convention, returned);
-            let mut c = plan_placing::start(convention, hidden);
-            let mut plan = blank(outcome, convention, ellipsis, result, count);
-            let mut values: usize = 0;
-            let mut i: usize = 0;
-            while i < count {
-                let a = g.arguments[i];
-                let t = a.ty;
-                let size = sig_types::size_of(convention, t);
-                let p = plan_placing::step(rules, c, t, size);
-                let s = p.span;
-                plan.spans[i] = s;
+    match g.outcome {
+        Err(_) => blank(
+            g.outcome,
+            Convention::Ppc64,
+            false,
+            ResultPlaces::Nothing,
+            0,
+        ),
+        Ok(_) => {
+            let rules = plan_places::with_ellipsis(
+                both_abi::call_rules_of(g.convention),
+                g.ellipsis,
+            );
+            let hidden = hidden_in(g.convention, g.result);
+            let result = result_in(g.convention, g.result);
+            let mut c = plan_placing::start(g.convention, hidden);
+            let mut plan = blank(g.outcome, g.convention, g.ellipsis, result, g.count);
+            let mut values = 0;
+            for (i, a) in g.arguments[..g.count].iter().enumerate() {
+                let size = sig_types::size_of(g.convention, a.ty);
+                let p = plan_placing::step(rules, c, a.ty, size);
+                plan.spans[i] = p.span;
                 c = p.next;
-                values = values + size;
-                i = i + 1;
+                values += size;
             }
-            plan.area = plan_placing::area_of(convention, c);
+            plan.area = plan_placing::area_of(g.convention, c);
             plan.values = values;
             plan.copies = c.copies;
             plan
@@ -132,30 +132,23 @@ pub fn first_unclear(g: SignatureRead) -> usize
     requires { Plannable g }
     ensures { result ≡ unclear_of g }
 {
-    let convention = g.convention;
-    let returned = g.result;
-    let count = g.count;
-    let rules = both_abi::call_rules_of(convention);
+    let rules = both_abi::call_rules_of(g.convention);
     if plan_placing::always_clear(rules) {
         return 0;
     }
-    let hidden = hidden_in(convention, returned);
-    let mut c = plan_placing::start(convention, hidden);
-    let mut unclear: usize = 0;
-    let mut i: usize = 0;
-    while i < count {
-        let a = g.arguments[i];
-        let t = a.ty;
-        let size = sig_types::size_of(convention, t);
-        unclear = plan_placing::unclear_after(unclear, rules, c, t, i);
-        c = plan_placing::advance(rules, c, t, size);
-        i = i + 1;
+    let hidden = hidden_in(g.convention, g.result);
+    let mut c = plan_placing::start(g.convention, hidden);
+    let mut unclear = 0;
+    for (i, a) in g.arguments[..g.count].iter().enumerate() {
+        let size = sig_types::size_of(g.convention, a.ty);
+        unclear = plan_placing::unclear_after(unclear, rules, c, a.ty, i);
+        c = plan_placing::advance(rules, c, a.ty, size);
     }
     unclear
 }
 
 // The same as below, where the rules leave something open.
-fn later_outcome(sig: &[u8], g: SignatureRead) -> Outcome
+fn later_outcome(sig: &[u8], g: SignatureRead) -> Result<usize, Fault>
     requires { g ≡ signature_answer (signature_of sig.now) }
     ensures { result ≡ outcome_for sig.now }
 {
@@ -163,18 +156,15 @@ fn later_outcome(sig: &[u8], g: SignatureRead) -> Outcome
     if unclear == 0 {
         return g.outcome;
     }
-    let fault = sig_reader::unclear_fault(sig, unclear - 1);
-    Outcome::Refused(fault)
+    Err(sig_reader::unclear_fault(sig, unclear - 1))
 }
 
 // The outcome of a call, by its signature's bytes and what was read of them.
-pub fn call_outcome(sig: &[u8], g: SignatureRead) -> Outcome
+pub fn call_outcome(sig: &[u8], g: SignatureRead) -> Result<usize, Fault>
     requires { g ≡ signature_answer (signature_of sig.now) }
     ensures { result ≡ outcome_for sig.now }
 {
-    let convention = g.convention;
-    let rules = both_abi::call_rules_of(convention);
-    if plan_placing::always_clear(rules) {
+    if plan_placing::always_clear(both_abi::call_rules_of(g.convention)) {
         return g.outcome;
     }
     later_outcome(sig, g)
@@ -191,7 +181,7 @@ fn plan_call(sig: &[u8], g: SignatureRead) -> Plan
     }
     let fault = sig_reader::unclear_fault(sig, unclear - 1);
     blank(
-        Outcome::Refused(fault),
+        Err(fault),
         Convention::Ppc64,
         false,
         ResultPlaces::Nothing,

@@ -1,4 +1,5 @@
 -- The plan of the reader's answer is that of what it reads. Assumes nothing.
+use Rattle.std.proofs.Common.{Err}
 use mathlib.Core.Path.{◌≡◌, refl, ap}
 use mathlib.Core.List.{List}
 use Prim.Native.Nat.{ℕ, ◌≤◌}
@@ -7,7 +8,6 @@ use lib.ListN.{length, length-append}
 use Rattle.sig_types.specs.Trees.{count_of}
 use Rattle.sig_items.specs.declared.Fault.{Fault}
 use Rattle.sig_items.specs.Reading.{Reading, got, no}
-use Rattle.sig_signatures.specs.declared.Outcome.{Outcome}
 use Rattle.sig_signatures.specs.Signature.{Signature}
 use Rattle.sig_signatures.specs.Limits.{max_arguments}
 use Rattle.sig_signatures.specs.Read.{signature_of}
@@ -62,5 +62,5 @@ unfolding plan_answer plan_in
 outcome-read (got g next n) = refl
 outcome-read (no f) = refl
 
-pub outcome-refused : (x : Reading Signature) (f : Fault) → x ≡ no f → Outcome.Refused f ≡ (signature_answer x).outcome
+pub outcome-refused : (x : Reading Signature) (f : Fault) → x ≡ no f → Err f ≡ (signature_answer x).outcome
 outcome-refused x f e = rw e

@@ -1,4 +1,5 @@
 -- The first unclear argument along the fold, and the reading of a call by it. Assumes nothing.
+use Rattle.std.proofs.Common.{Ok, Err}
 use mathlib.Core.Path.{◌≡◌, refl, sym, ap, ◌∙◌}
 use mathlib.Core.Bool.{Bool, true, false}
 use mathlib.Core.List.{List, [], ◌∷◌, ◌++◌}
@@ -12,7 +13,6 @@ use Rattle.sig_types.specs.declared.ValueType.{ValueType}
 use Rattle.sig_types.specs.Sizes.{size_of}
 use Rattle.sig_items.specs.declared.Fault.{Fault}
 use Rattle.sig_items.specs.Reading.{Reading, got, no}
-use Rattle.sig_signatures.specs.declared.Outcome.{Outcome}
 use Rattle.sig_signatures.specs.declared.SignatureRead.{SignatureRead}
 use Rattle.sig_signatures.specs.Limits.{max_arguments}
 use Rattle.sig_signatures.specs.Signature.{Signature}
@@ -145,11 +145,11 @@ called-got (got h m k) g next n e = go (unclear_in h) e
     go (suc i) q = let z : ◌≡◌ {A = ℕ} 0 1 = cc in absurd (omega arith)
 called-got (no f) g next n e = e
 
-pub called-accepted : (x : Reading Signature) (n : ℕ) → (plan_answer (called x)).outcome ≡ Outcome.Accepted n → called x ≡ x
+pub called-accepted : (x : Reading Signature) (n : ℕ) → (plan_answer (called x)).outcome ≡ Ok n → called x ≡ x
 unfolding called plan_answer plan_in
 called-accepted (got h m k) n e = go (unclear_in h) e
   where
-    go : (u : ℕ) → (plan_answer (clear_read u h m k)).outcome ≡ Outcome.Accepted n → clear_read u h m k ≡ got h m k
+    go : (u : ℕ) → (plan_answer (clear_read u h m k)).outcome ≡ Ok n → clear_read u h m k ≡ got h m k
     go zero q = refl
     go (suc i) q = let z : ◌≡◌ {A = ℕ} 0 1 = cc in absurd (omega arith)
 called-accepted (no f) n e = refl
@@ -165,7 +165,7 @@ unfolding called first_unclear
 called-unclear (got g next n) i e = rw (sym (unclear-same g next n) ∙ e)
 called-unclear (no f) i e = let z : ◌≡◌ {A = ℕ} 0 1 = cc in absurd (omega arith)
 
-pub called-refused : (x : Reading Signature) (f : Fault) → (signature_answer x).outcome ≡ Outcome.Refused f → called x ≡ no f
+pub called-refused : (x : Reading Signature) (f : Fault) → (signature_answer x).outcome ≡ Err f → called x ≡ no f
 unfolding called
 called-refused (got g next n) f e = let z : ◌≡◌ {A = ℕ} 0 1 = cc in absurd (omega arith)
 called-refused (no f) g e = cc
@@ -205,7 +205,7 @@ clear-outcome x g e u =
     ap (λ (y : SignatureRead). y.outcome) e ∙ sym (outcome-read x) ∙ ap (λ (y : Reading Signature). (plan_answer y).outcome) (sym (called-clear x (sym (ap unclear_of e) ∙ u)))
 
 pub unclear-outcome : (x : Reading Signature) (g : SignatureRead) (i : ℕ) → g ≡ signature_answer x → unclear_of g ≡ suc i
-    → Outcome.Refused (unclear_fault i x) ≡ (plan_answer (called x)).outcome
+    → Err (unclear_fault i x) ≡ (plan_answer (called x)).outcome
 unclear-outcome x g i e u = ap (λ (p : Plan). p.outcome) (unclear-plan x g i e u)
 
 -- ---- its arguments

@@ -1,5 +1,6 @@
 -- Calls with an ellipsis: figure 3-18, func(c, ff, d, ld, s, gg, t, e, hh), by each edition, and arguments that stand in registers of both banks and
 -- in memory. Each computes. Assumes nothing.
+use Rattle.std.proofs.Common.{None}
 use mathlib.Core.Path.{◌≡◌, refl}
 use mathlib.Core.Bool.{true}
 use mathlib.Core.List.{List, [], ◌∷◌, map}
@@ -10,7 +11,6 @@ use Rattle.sig_types.specs.declared.Equivalent.{Equivalent}
 use Rattle.sig_types.specs.declared.FloatFormat.{FloatFormat}
 use Rattle.sig_types.specs.declared.IntegerKind.{IntegerKind}
 use Rattle.sig_types.specs.declared.ValueType.{ValueType}
-use Rattle.sig_signatures.specs.declared.ResultType.{ResultType}
 use Rattle.plan_places.specs.declared.Bank.{Bank}
 use Rattle.plan_places.specs.declared.Place.{Place}
 use Rattle.plan_places.specs.Power.{words, fprs, share_of, power_share}
@@ -48,7 +48,7 @@ at n = Place.Memory n
 
 -- the places of a plan's spans, without a result
 abbrev placed : Convention → List ValueType → List (List Place)
-placed c ts = map (places_of (word_bytes c)) (spans_of c (with_ellipsis true (rules_of c)) (start_in c ResultType.Nothing) ts)
+placed c ts = map (places_of (word_bytes c)) (spans_of c (with_ellipsis true (rules_of c)) (start_in c None) ts)
 
 -- 02, No. 5: "in its FPR, and as well in its GPR while w < 8 and in memory from w 8 on"
 pub earlier : placed Convention.Ppc64 figure

@@ -1,4 +1,7 @@
 -- The loop that measures: the arguments that are read and placed so far, and what each way out of it gives. Assumes nothing.
+use Rattle.sig_signatures.specs.declared.Head.{Head}
+use Rattle.sig_items.specs.declared.Item.{Item}
+use Rattle.std.proofs.Common.{Ok, Result, Option}
 use mathlib.Core.Path.{◌≡◌, refl, sym, ap, ◌∙◌}
 use mathlib.Core.Bool.{Bool, true, false}
 use mathlib.Core.List.{List}
@@ -14,18 +17,14 @@ use Rattle.sig_types.specs.Sizes.{size_of}
 use Rattle.sig_types.specs.Trees.{Tree, Trees, none, ◌▸◌, type_of}
 use Rattle.sig_items.specs.declared.Refusal.{Refusal}
 use Rattle.sig_items.specs.declared.Fault.{Fault}
-use Rattle.sig_items.specs.declared.ItemRead.{ItemRead}
 use Rattle.sig_items.specs.Reading.{Reading, fault, got, no, later}
 use Rattle.sig_items.specs.Read.{item_at}
-use Rattle.sig_items.specs.Answer.{item_answer}
+use Rattle.sig_items.specs.Answer.{item_answer, item_found}
 use Rattle.sig_items.proofs.Loop.{item-answered}
 use Rattle.sig_signatures.specs.Limits.{max_arguments}
-use Rattle.sig_signatures.specs.declared.Outcome.{Outcome}
-use Rattle.sig_signatures.specs.declared.ResultType.{ResultType}
-use Rattle.sig_signatures.specs.declared.HeadRead.{HeadRead}
-use Rattle.sig_signatures.specs.Signature.{Result, Signature}
+use Rattle.sig_signatures.specs.Signature.{ResultTree, Signature}
 use Rattle.sig_signatures.specs.Read.{arguments_in, signature_of, head_of}
-use Rattle.sig_signatures.specs.Answer.{result_type, head_answer, signature_answer}
+use Rattle.sig_signatures.specs.Answer.{result_type, head_answer, signature_answer, head_found}
 use Rattle.sig_signatures.proofs.Laws.{then_arguments, signature-then}
 use Rattle.sig_signatures.proofs.Loop.{Turn, turn-start, turn_more, turn_last}
 use Rattle.sig_signatures.specs.Types.{values_of, types_of}
@@ -85,8 +84,8 @@ module _ (c : Convention) (s : List ℕ) (at e : ℕ) (r : CallRules) where
       }
 
   module _ (start k : Cursor) (v u count next n : ℕ) (m : Measuring c s at e r start k v u count next n) where
-    pub measuring-more : LawfulCalls r → next < e → (count ≡ max_arguments → ⊥) → (x : ItemRead) → x ≡ item_answer c (item_at c 8 s e next) → (t : ValueType) (after j : ℕ) →
-        x ≡ ItemRead.Item t after j → Measuring c s at e r start (next_of r k t (size_of c t)) (v + size_of c t) (unclear_after u (unclear_for r k t) count) (count + 1) after (n + j)
+    pub measuring-more : LawfulCalls r → next < e → (count ≡ max_arguments → ⊥) → (x : Result Item Fault) → x ≡ item_answer c (item_at c 8 s e next) → (t : ValueType) (after j : ℕ) →
+        x ≡ item_found t after j → Measuring c s at e r start (next_of r k t (size_of c t)) (v + size_of c t) (unclear_after u (unclear_for r k t) count) (count + 1) after (n + j)
     measuring-more l h some x found t after j q =
         let a = item-answered c 8 s e next x t after j (omega arith) found q in
         let more = turn_more c s at e m.ts count next n m.so_far.turn h some x found t after j q in
@@ -94,7 +93,7 @@ module _ (c : Convention) (s : List ℕ) (at e : ℕ) (r : CallRules) where
 
 -- ---- the answers
 
-module _ (c : Convention) (s : List ℕ) (at e : ℕ) (result : ResultType) (earlier : ℕ) where
+module _ (c : Convention) (s : List ℕ) (at e : ℕ) (result : Option ValueType) (earlier : ℕ) where
   pub measure-no : (f : Fault) → arguments_in c s at e ≡ no f →
       measure_of (refused_plan (later earlier f)) ≡ measure_of (plan_with c false result earlier (length s) (arguments_in c s at e))
   measure-no f q = rw q
@@ -108,7 +107,7 @@ module _ (c : Convention) (s : List ℕ) (at e : ℕ) (result : ResultType) (ear
     measure-trailing h = rw (turn_last c s at e m.ts count next n m.so_far.turn last, lt-ltb next (length s) h)
 
     pub measure-end : length s ≤ next →
-        ◌≡◌ {A = Measured} (record { outcome = Outcome.Accepted (earlier + n); area = area_of c k; values = v; copies = k.copies })
+        ◌≡◌ {A = Measured} (record { outcome = Ok (earlier + n); area = area_of c k; values = v; copies = k.copies })
         (measure_of (plan_with c false result earlier (length s) (arguments_in c s at e)))
     unfolding plan_in
     measure-end h = rw (turn_last c s at e m.ts count next n m.so_far.turn last, le-ltb next (length s) h) (cc (m.so_far.last, m.so_far.total))
@@ -120,7 +119,7 @@ module _ (c : Convention) (s : List ℕ) (at e : ℕ) (result : ResultType) (ear
     unclear-end h = rw (turn_last c s at e m.ts count next n m.so_far.turn last, le-ltb next (length s) h) m.so_far.unclear
 
 -- no size depends on an ellipsis
-measured-marked : (c : Convention) (v : Bool) (r : ResultType) (n all : ℕ) (x : Reading Trees) → measure_of (plan_with c false r n all x) ≡ measure_of (plan_with c v r n all x)
+measured-marked : (c : Convention) (v : Bool) (r : Option ValueType) (n all : ℕ) (x : Reading Trees) → measure_of (plan_with c false r n all x) ≡ measure_of (plan_with c v r n all x)
 unfolding plan_in
 measured-marked c v r n all (got ts next m) = go (ltb next all)
   where
@@ -131,7 +130,7 @@ measured-marked c v r n all (got ts next m) = go (ltb next all)
 measured-marked c v r n all (no f) = refl
 
 -- the plan of what is read from the arguments on
-plan-then : (s : List ℕ) (c : Convention) (r : Result) (v : Bool) (n : ℕ) (x : Reading Trees) →
+plan-then : (s : List ℕ) (c : Convention) (r : ResultTree) (v : Bool) (n : ℕ) (x : Reading Trees) →
     plan_answer (then_arguments s c r v n x) ≡ plan_with c v (result_type c r) n (length s) x
 unfolding plan_answer
 plan-then s c r v n (got ts next m) = go (ltb next (length s))
@@ -143,22 +142,22 @@ plan-then s c r v n (got ts next m) = go (ltb next (length s))
     go false = refl
 plan-then s c r v n (no f) = refl
 
-pub plan-arguments : (s : List ℕ) (x : HeadRead) → x ≡ head_answer (head_of s) → (c : Convention) (t : ResultType) (v : Bool) (at b n : ℕ) → x ≡ HeadRead.Head c t v at b n →
+pub plan-arguments : (s : List ℕ) (x : Result Head Fault) → x ≡ head_answer (head_of s) → (c : Convention) (t : Option ValueType) (v : Bool) (at b n : ℕ) → x ≡ head_found c t v at b n →
     plan_answer (signature_of s) ≡ plan_with c v t n (length s) (arguments_in c s at b)
 plan-arguments s x found c t v at b n q =
     let (r, read, same) = signature-then s x found c t v at b n q in
     ap plan_answer read
     ∙ plan-then s c r v n (arguments_in c s at b)
-    ∙ ap (λ (u : ResultType). plan_with c v u n (length s) (arguments_in c s at b)) (sym same)
+    ∙ ap (λ (u : Option ValueType). plan_with c v u n (length s) (arguments_in c s at b)) (sym same)
 
 -- the sizes alone: whatever the mark is
-pub measured-arguments : (s : List ℕ) (x : HeadRead) → x ≡ head_answer (head_of s) → (c : Convention) (t : ResultType) (v : Bool) (at b n : ℕ) → x ≡ HeadRead.Head c t v at b n →
+pub measured-arguments : (s : List ℕ) (x : Result Head Fault) → x ≡ head_answer (head_of s) → (c : Convention) (t : Option ValueType) (v : Bool) (at b n : ℕ) → x ≡ head_found c t v at b n →
     measure_of (plan_with c false t n (length s) (arguments_in c s at b)) ≡ measure_of (plan_answer (signature_of s))
 measured-arguments s x found c t v at b n q =
     measured-marked c v t n (length s) (arguments_in c s at b) ∙ sym (ap measure_of (plan-arguments s x found c t v at b n q))
 
 -- the first unclear argument of what is read from the arguments on
-unclear-then : (s : List ℕ) (c : Convention) (r : Result) (v : Bool) (n : ℕ) (x : Reading Trees) →
+unclear-then : (s : List ℕ) (c : Convention) (r : ResultTree) (v : Bool) (n : ℕ) (x : Reading Trees) →
     unclear_of (signature_answer (then_arguments s c r v n x)) ≡ unclear_with c (result_type c r) (length s) x
 unfolding first_unclear
 unclear-then s c r v n (got ts next m) = go (ltb next (length s))
@@ -170,10 +169,10 @@ unclear-then s c r v n (got ts next m) = go (ltb next (length s))
     go false = ap (first_unclear c (rules_of c) (start_in c (result_type c r)) 0) (table-types c ts)
 unclear-then s c r v n (no f) = refl
 
-pub unclear-arguments : (s : List ℕ) (x : HeadRead) → x ≡ head_answer (head_of s) → (c : Convention) (t : ResultType) (v : Bool) (at b n : ℕ) → x ≡ HeadRead.Head c t v at b n →
+pub unclear-arguments : (s : List ℕ) (x : Result Head Fault) → x ≡ head_answer (head_of s) → (c : Convention) (t : Option ValueType) (v : Bool) (at b n : ℕ) → x ≡ head_found c t v at b n →
     unclear_of (signature_answer (signature_of s)) ≡ unclear_with c t (length s) (arguments_in c s at b)
 unclear-arguments s x found c t v at b n q =
     let (r, read, same) = signature-then s x found c t v at b n q in
     ap (λ (y : Reading Signature). unclear_of (signature_answer y)) read
     ∙ unclear-then s c r v n (arguments_in c s at b)
-    ∙ ap (λ (u : ResultType). unclear_with c u (length s) (arguments_in c s at b)) (sym same)
+    ∙ ap (λ (u : Option ValueType). unclear_with c u (length s) (arguments_in c s at b)) (sym same)

@@ -1,10 +1,11 @@
 -- Every plan can be printed and stored. Assumes nothing.
+use Rattle.sig_types.specs.declared.ValueType.{ValueType}
+use Rattle.std.proofs.Common.{Some, None, Option}
 use mathlib.Core.List.{List}
 use Prim.Native.Nat.{ℕ}
 use Rattle.base_conventions.specs.declared.Convention.{Convention}
 use Rattle.sig_types.specs.Sizes.{size_of}
 use Rattle.sig_items.specs.Reading.{Reading, got, no}
-use Rattle.sig_signatures.specs.declared.ResultType.{ResultType}
 use Rattle.sig_signatures.specs.Signature.{Signature}
 use Rattle.sig_signatures.specs.Answer.{result_type}
 use Rattle.plan_places.specs.Step.{rules_of}
@@ -17,9 +18,9 @@ use Rattle.plan_plans.proofs.Calls.{call-few}
 use Rattle.plan_plans.proofs.Theorems.{within}
 use Rattle.plan_plans.specs.Helpers.{Printable}
 
-result-of : (c : Convention) (r : ResultType) → ResultNumbered (result_places_in c r)
-result-of c ResultType.Nothing = tt
-result-of c (ResultType.Value t) = result-numbered (rules_of c) t (size_of c t)
+result-of : (c : Convention) (r : Option ValueType) → ResultNumbered (result_places_in c r)
+result-of c None = tt
+result-of c (Some t) = result-numbered (rules_of c) t (size_of c t)
 
 result-in : (x : Reading Signature) → ResultNumbered (plan_answer x).result
 unfolding plan_answer plan_in

@@ -1,4 +1,5 @@
 -- Every plan keeps its arguments apart and within bounds (specs/Disjoint.antt states it). Assumes nothing.
+use Rattle.std.proofs.Common.{Some, None, Option}
 use mathlib.Core.Path.{◌≡◌, refl, sym, subst}
 use mathlib.Core.Bool.{Bool, true, false}
 use mathlib.Core.List.{List, []}
@@ -12,7 +13,6 @@ use Rattle.sig_types.specs.declared.ValueType.{ValueType}
 use Rattle.sig_types.specs.Sizes.{size_of}
 use Rattle.sig_items.specs.declared.Fault.{Fault}
 use Rattle.sig_items.specs.Reading.{got, no}
-use Rattle.sig_signatures.specs.declared.ResultType.{ResultType}
 use Rattle.sig_signatures.specs.Limits.{max_arguments}
 use Rattle.sig_signatures.specs.Answer.{result_type}
 use Rattle.sig_signatures.specs.Types.{types_of}
@@ -39,7 +39,7 @@ use Rattle.plan_plans.proofs.Apart.{in_table, span_in, none_owned, owned-from, o
 abbrev rules_for : Convention → Bool → CallRules
 rules_for c v = with_ellipsis v (rules_of c)
 
-module _ (n : ℕ) (c : Convention) (v : Bool) (r : ResultType) (ts : List ValueType) where
+module _ (n : ℕ) (c : Convention) (v : Bool) (r : Option ValueType) (ts : List ValueType) where
   -- the table's span is the fold's
   in-plan : (i : ℕ) → span_at (plan_in n c v r ts) i ≡ span_in c (rules_for c v) (start_in c r) ts i
   unfolding plan_in
@@ -58,11 +58,11 @@ hidden-from c v ts i x a b =
     (owned-from c (rules_for c v) (start_of (rules_of c) true) ts i x b)
 
 -- a hidden address is placed as a first argument that is a pointer, and the arguments start after it
-pub hidden-address : (c : Convention) (r : ResultType) (s : Span) → result_places_in c r ≡ ResultPlaces.Hidden s
+pub hidden-address : (c : Convention) (r : Option ValueType) (s : Span) → result_places_in c r ≡ ResultPlaces.Hidden s
     → (s ≡ span_of (rules_of c) (fresh_cursor (rules_of c)) pointer (word_of (rules_of c))) × (start_in c r ≡ start_of (rules_of c) true)
 unfolding result_of
-hidden-address c ResultType.Nothing s e = let z : ◌≡◌ {A = ℕ} 0 1 = cc in absurd (omega arith)
-hidden-address c (ResultType.Value t) s e = go (hidden_for (rules_of c) t) e
+hidden-address c None s e = let z : ◌≡◌ {A = ℕ} 0 1 = cc in absurd (omega arith)
+hidden-address c (Some t) s e = go (hidden_for (rules_of c) t) e
   where
     address : Span
     address = span_of (rules_of c) (fresh_cursor (rules_of c)) pointer (word_of (rules_of c))
@@ -75,13 +75,13 @@ hidden-address c (ResultType.Value t) s e = go (hidden_for (rules_of c) t) e
     go true q = let same : s ≡ address = cc in (same, refl)
     go false q = let z : ◌≡◌ {A = ℕ} 0 1 = cc in absurd (omega arith)
 
-hidden-apart : (c : Convention) (v : Bool) (r : ResultType) (ts : List ValueType) (s : Span) (i : ℕ) (x : Spot)
+hidden-apart : (c : Convention) (v : Bool) (r : Option ValueType) (ts : List ValueType) (s : Span) (i : ℕ) (x : Spot)
     → result_places_in c r ≡ ResultPlaces.Hidden s → Owns s x → Owns (span_in c (rules_for c v) (start_in c r) ts i) x → ⊥
 hidden-apart c v r ts s i x e a b =
     let h = hidden-address c r s e in
     hidden-from c v ts i x (subst (λ (y : Span). Owns y x) h.0 a) (subst (λ (k : Cursor). Owns (span_in c (rules_for c v) k ts i) x) h.1 b)
 
-plan-disjoint : (n : ℕ) (c : Convention) (v : Bool) (r : ResultType) (ts : List ValueType) → Disjoint (plan_in n c v r ts)
+plan-disjoint : (n : ℕ) (c : Convention) (v : Bool) (r : Option ValueType) (ts : List ValueType) → Disjoint (plan_in n c v r ts)
 unfolding plan_in
 plan-disjoint n c v r ts =
     let k : Cursor = start_in c r in
@@ -91,7 +91,7 @@ plan-disjoint n c v r ts =
       hidden = λ s i x e a b. hidden-apart c v r ts s i x e a (owned n c v r ts i x b);
     }
 
-module _ (n : ℕ) (c : Convention) (v : Bool) (r : ResultType) (ts : List ValueType) where
+module _ (n : ℕ) (c : Convention) (v : Bool) (r : Option ValueType) (ts : List ValueType) where
   -- what an argument owns is before the end, which an ellipsis doesn't move
   owned-within : (i : ℕ) (x : Spot) → Owns (span_at (plan_in n c v r ts) i) x → Before (last_cursor_in c r ts) x
   owned-within i x o =

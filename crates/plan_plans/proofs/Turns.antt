@@ -1,4 +1,5 @@
 -- A turn of the planner's loop: what is planned so far and what is left make up the whole fold. Assumes nothing.
+use Rattle.std.proofs.Common.{Ok, Option}
 use mathlib.Core.Path.{◌≡◌, refl, subst, ◌∙◌}
 use mathlib.Core.Bool.{Bool}
 use mathlib.Core.List.{List, [], ◌∷◌}
@@ -10,8 +11,6 @@ use Rattle.base_words.proofs.Tables.{Table, table-start, table_more, table-end}
 use Rattle.base_conventions.specs.declared.Convention.{Convention}
 use Rattle.sig_types.specs.declared.ValueType.{ValueType}
 use Rattle.sig_types.specs.Sizes.{size_of}
-use Rattle.sig_signatures.specs.declared.Outcome.{Outcome}
-use Rattle.sig_signatures.specs.declared.ResultType.{ResultType}
 use Rattle.sig_signatures.specs.Limits.{max_arguments}
 use Rattle.sig_signatures.specs.Types.{values_of}
 use Rattle.plan_places.specs.declared.Cursor.{Cursor}
@@ -90,9 +89,9 @@ going_end c r start ts ss k v i h g =
     }
 
 -- so that they make up the plan: p is what the loop leaves of it, by rules and from a cursor that are the plan's
-pub gone-plan : (n : ℕ) (c : Convention) (v : Bool) (q : ResultType) (ts : List ValueType) (r : CallRules) (start k : Cursor) (p : Plan) (values area : ℕ)
+pub gone-plan : (n : ℕ) (c : Convention) (v : Bool) (q : Option ValueType) (ts : List ValueType) (r : CallRules) (start k : Cursor) (p : Plan) (values area : ℕ)
     → r ≡ with_ellipsis v (rules_of c) → start ≡ start_in c q → Gone c r start ts p.spans k values
-    → p.outcome ≡ Outcome.Accepted n → p.convention ≡ c → p.ellipsis ≡ v → p.result ≡ result_places_in c q → p.count ≡ length ts → area ≡ area_of c k
+    → p.outcome ≡ Ok n → p.convention ≡ c → p.ellipsis ≡ v → p.result ≡ result_places_in c q → p.count ≡ length ts → area ≡ area_of c k
     → ◌≡◌ {A = Plan} (record {
       outcome = p.outcome;
       convention = p.convention;

@@ -1,12 +1,12 @@
 -- The reading of a call: that of its signature, but where the papers leave open the place of an argument. 02, No. 12: "When only f13 is left the
 -- editions we hold aren't clear, so give new refusal 29 at that argument's header, after reading and before 24". Assumes nothing.
-use Rattle.std.specs.Prelude.{ℕ, zero, suc, List, [], ◌∷◌}
+use Rattle.sig_items.specs.declared.Fault.{Fault}
+use Rattle.std.specs.Prelude.{ℕ, zero, suc, List, [], ◌∷◌, Result}
 use Rattle.base_words.specs.Basics.{pick}
 use Rattle.base_conventions.specs.declared.Convention.{Convention}
 use Rattle.sig_types.specs.declared.ValueType.{ValueType}
 use Rattle.sig_types.specs.Sizes.{size_of}
 use Rattle.sig_items.specs.Reading.{Reading, got, no}
-use Rattle.sig_signatures.specs.declared.Outcome.{Outcome}
 use Rattle.sig_signatures.specs.Signature.{Signature}
 use Rattle.sig_signatures.specs.Read.{signature_of}
 use Rattle.sig_signatures.specs.Answer.{result_type}
@@ -42,5 +42,5 @@ abbrev pub call_of : List ℕ → Reading Signature
 call_of s = called (signature_of s)
 
 -- what a call is accepted or refused with; all else of it is the plan's of its reading
-abbrev pub outcome_for : List ℕ → Outcome
+abbrev pub outcome_for : List ℕ → Result ℕ Fault
 outcome_for s = (plan_answer (call_of s)).outcome

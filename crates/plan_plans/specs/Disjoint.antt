@@ -1,9 +1,8 @@
 -- What is proved of every plan, whatever bytes it was asked of: each argument's places are its own, and all, the hidden address's
 -- too, lie within the registers, the parameter area and the copies. proofs/Theorems.antt proves it. Assumes nothing.
-use Rattle.std.specs.Prelude.{ℕ, ◌+◌, ◌≤◌, ◌<◌, ◌≡◌, get_or}
+use Rattle.std.specs.Prelude.{ℕ, ◌+◌, ◌≤◌, ◌<◌, ◌≡◌, get_or, Ok}
 use Rattle.base_conventions.specs.Numbers.{least_area}
 use Rattle.sig_items.specs.Reading.{Reading}
-use Rattle.sig_signatures.specs.declared.Outcome.{Outcome}
 use Rattle.sig_signatures.specs.Signature.{Signature}
 use Rattle.plan_places.specs.declared.Span.{Span}
 use Rattle.plan_places.specs.declared.ResultPlaces.{ResultPlaces}
@@ -41,7 +40,7 @@ pub record PlanWithin (p : Plan) : Type 0 where
   pub arguments : (i : ℕ) → SpanWithin p (span_at p i)
   pub hidden : (s : Span) → p.result ≡ ResultPlaces.Hidden s → SpanWithin p s
   -- "8 times the larger of 8 and the final w": the area is never less than the convention's least
-  pub least : (n : ℕ) → p.outcome ≡ Outcome.Accepted n → least_area p.convention ≤ p.area
+  pub least : (n : ℕ) → p.outcome ≡ Ok n → least_area p.convention ≤ p.area
 
 abbrev pub PlansWithin : Type 0
 PlansWithin = (x : Reading Signature) → PlanWithin (plan_answer x)

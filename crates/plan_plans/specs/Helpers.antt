@@ -1,14 +1,14 @@
 -- For proofs and helpers alone: no claim cites this file.
 -- The plan by the reader's answer, and from the arguments on: what the loops of the planners answer;
 -- and what the writers of a plan ask. Assumes nothing.
-use Rattle.std.specs.Prelude.{ℕ, zero, suc, ◌+◌, ◌≤◌, Bool, ltb, length}
+use Rattle.sig_items.specs.declared.Fault.{Fault}
+use Rattle.sig_types.specs.declared.ValueType.{ValueType}
+use Rattle.std.specs.Prelude.{ℕ, zero, suc, ◌+◌, ◌≤◌, Bool, ltb, length, Ok, Err, Result, Option}
 use Rattle.base_words.specs.Basics.{pick}
 use Rattle.base_conventions.specs.declared.Convention.{Convention}
 use Rattle.sig_types.specs.Trees.{Trees}
 use Rattle.sig_items.specs.declared.Refusal.{Refusal}
 use Rattle.sig_items.specs.Reading.{Reading, fault, got, no, later}
-use Rattle.sig_signatures.specs.declared.ResultType.{ResultType}
-use Rattle.sig_signatures.specs.declared.Outcome.{Outcome}
 use Rattle.sig_signatures.specs.declared.SignatureRead.{SignatureRead}
 use Rattle.sig_signatures.specs.Limits.{max_arguments}
 use Rattle.sig_signatures.specs.Signature.{Signature}
@@ -24,15 +24,15 @@ use Rattle.plan_plans.specs.Call.{first_unclear}
 use Rattle.plan_plans.specs.Disjoint.{span_at}
 
 -- the plan of the reader's answer, as `plan_answer` of its reading (law `planned-answer`)
-abbrev pub planned_as : Outcome → SignatureRead → Plan
-planned_as (Outcome.Accepted n) g = plan_in n g.convention g.ellipsis g.result (types_in g)
-planned_as (Outcome.Refused f) g = refused_plan f
+abbrev pub planned_as : Result ℕ Fault → SignatureRead → Plan
+planned_as (Ok n) g = plan_in n g.convention g.ellipsis g.result (types_in g)
+planned_as (Err f) g = refused_plan f
 
 unfoldable pub planned : SignatureRead → Plan
 planned g = planned_as g.outcome g
 
 -- from the arguments on, in a signature of `all` bytes, where n items came before theirs: as `with_arguments` of the reader
-abbrev pub plan_with : Convention → Bool → ResultType → ℕ → ℕ → Reading Trees → Plan
+abbrev pub plan_with : Convention → Bool → Option ValueType → ℕ → ℕ → Reading Trees → Plan
 plan_with c v r n all (got ts next m) = pick (ltb next all) (refused_plan (fault Refusal.TrailingBytes next (n + m))) (plan_in (n + m) c v r (types_of c ts))
 plan_with c v r n all (no f) = refused_plan (later n f)
 
@@ -41,7 +41,7 @@ abbrev pub unclear_of : SignatureRead → ℕ
 unclear_of g = first_unclear g.convention (rules_of g.convention) (start_in g.convention g.result) 0 (types_in g)
 
 -- and of what is read from the arguments on, in a signature of `all` bytes, as `plan_with` of the plan
-abbrev pub unclear_with : Convention → ResultType → ℕ → Reading Trees → ℕ
+abbrev pub unclear_with : Convention → Option ValueType → ℕ → Reading Trees → ℕ
 unclear_with c r all (got ts next m) = pick (ltb next all) 0 (first_unclear c (rules_of c) (start_in c r) 0 (types_of c ts))
 unclear_with c r all (no f) = 0
 

@@ -1,13 +1,11 @@
 -- The plan of a whole signature: a convention's step folded over the arguments from left to right. Document 01, "Places on
 -- PPC64" and "Places on Z"; the step is the crate plan_places'. Assumes nothing.
-use Rattle.std.specs.Prelude.{ℕ, ◌+◌, ◌-◌, Bool, false, List, [], ◌∷◌, ◌++◌, length, replicate}
+use Rattle.std.specs.Prelude.{ℕ, ◌+◌, ◌-◌, Bool, false, List, [], ◌∷◌, ◌++◌, length, replicate, Ok, Err, Some, None, Result, Option}
 use Rattle.base_conventions.specs.declared.Convention.{Convention}
 use Rattle.sig_types.specs.declared.ValueType.{ValueType}
 use Rattle.sig_types.specs.Sizes.{size_of}
 use Rattle.sig_items.specs.declared.Fault.{Fault}
 use Rattle.sig_items.specs.Reading.{Reading, got, no}
-use Rattle.sig_signatures.specs.declared.ResultType.{ResultType}
-use Rattle.sig_signatures.specs.declared.Outcome.{Outcome}
 use Rattle.sig_signatures.specs.Signature.{Signature}
 use Rattle.sig_signatures.specs.Limits.{max_arguments}
 use Rattle.sig_signatures.specs.Answer.{result_type}
@@ -35,13 +33,13 @@ last_of c r k (t ∷ ts) = last_of c r (next_of r k t (size_of c t)) ts
 
 -- ---- the result
 
-abbrev pub hidden_in : Convention → ResultType → Bool
-hidden_in c ResultType.Nothing = false
-hidden_in c (ResultType.Value t) = hidden_for (rules_of c) t
+abbrev pub hidden_in : Convention → Option ValueType → Bool
+hidden_in c None = false
+hidden_in c (Some t) = hidden_for (rules_of c) t
 
-abbrev pub result_places_in : Convention → ResultType → ResultPlaces
-result_places_in c ResultType.Nothing = ResultPlaces.Nothing
-result_places_in c (ResultType.Value t) = result_of (rules_of c) t (size_of c t)
+abbrev pub result_places_in : Convention → Option ValueType → ResultPlaces
+result_places_in c None = ResultPlaces.Nothing
+result_places_in c (Some t) = result_of (rules_of c) t (size_of c t)
 
 -- ---- the plan
 
@@ -53,17 +51,17 @@ unfoldable pub table_of : List Span → List Span
 table_of l = l ++ replicate (max_arguments - length l) no_span
 
 -- the cursor of the first argument
-abbrev pub start_in : Convention → ResultType → Cursor
+abbrev pub start_in : Convention → Option ValueType → Cursor
 start_in c r = start_of (rules_of c) (hidden_in c r)
 
-abbrev pub last_cursor_in : Convention → ResultType → List ValueType → Cursor
+abbrev pub last_cursor_in : Convention → Option ValueType → List ValueType → Cursor
 last_cursor_in c r ts = last_of c (rules_of c) (start_in c r) ts
 
 -- a signature of n items: its convention, whether it has an ellipsis, its result and its arguments' types. 02, No. 5: an ellipsis puts floats in
 -- more places, and moves none, so that the cursors and the sizes are by the convention's own rules
-unfoldable pub plan_in : ℕ → Convention → Bool → ResultType → List ValueType → Plan
+unfoldable pub plan_in : ℕ → Convention → Bool → Option ValueType → List ValueType → Plan
 plan_in n c v r ts = record {
-  outcome = Outcome.Accepted n;
+  outcome = Ok n;
   convention = c;
   ellipsis = v;
   result = result_places_in c r;
@@ -75,7 +73,7 @@ plan_in n c v r ts = record {
 }
 
 -- a plan without spans and sizes
-abbrev pub blank_plan : Outcome → Convention → Bool → ResultPlaces → ℕ → Plan
+abbrev pub blank_plan : Result ℕ Fault → Convention → Bool → ResultPlaces → ℕ → Plan
 blank_plan o c v r n = record {
   outcome = o;
   convention = c;
@@ -90,7 +88,7 @@ blank_plan o c v r n = record {
 
 -- "Every refusal leaves all buffers and the state untouched"
 abbrev pub refused_plan : Fault → Plan
-refused_plan f = blank_plan (Outcome.Refused f) Convention.Ppc64 false ResultPlaces.Nothing 0
+refused_plan f = blank_plan (Err f) Convention.Ppc64 false ResultPlaces.Nothing 0
 
 -- of what the reader finds in a signature's bytes
 unfoldable pub plan_answer : Reading Signature → Plan

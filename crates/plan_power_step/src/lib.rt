@@ -25,20 +25,17 @@ fn words_of(word: usize, size: usize) -> usize
 }
 
 // The FPRs that a type asks for.
+#[tactic(auto, unfolding(plan_places::specs::Power::fprs))]
 fn fprs_of(edition: Edition, t: ValueType) -> usize
     ensures { (result ≡ fprs edition t) × (result ≤ 2) }
 {
     match t {
-        ValueType::Integer(_) => 0,
-        ValueType::Float(f) => match f {
-            FloatFormat::Single => 1,
-            FloatFormat::Double => 1,
-            FloatFormat::LongDouble => match edition {
-                Edition::Earlier => 0,
-                Edition::Later => 2,
-            },
+        ValueType::Integer(_) | ValueType::Struct(_) => 0,
+        ValueType::Float(FloatFormat::Single | FloatFormat::Double) => 1,
+        ValueType::Float(FloatFormat::LongDouble) => match edition {
+            Edition::Earlier => 0,
+            Edition::Later => 2,
         },
-        ValueType::Struct(_) => 0,
     }
 }
 
@@ -47,16 +44,10 @@ fn both_of(m: usize, room: usize, n: usize, k: usize) -> Share
     requires { k ≤ n }
     ensures { result ≡ share_of true m room n k }
 {
-    if room < m {
-        return Share {
-            general: k,
-            floating: 0,
-            memory: n - k,
-        };
-    }
+    let floating = if room < m { 0 } else { m };
     Share {
         general: k,
-        floating: m,
+        floating,
         memory: n - k,
     }
 }
@@ -103,13 +94,11 @@ fn taken_of(f: PowerRules, c: Cursor, t: ValueType, size: usize) -> PowerTaken
     requires { (4 ≤ f.word) × (f.word ≤ 8) × Roomy c × (size ≤ max_size) }
     ensures { (result.count ≡ words f.word size) × (result.share ≡ power_share f c t size) × Counted f.word c result.count result.covered result.share }
 {
-    let word = f.word;
-    let edition = f.edition;
-    let n = words_of(word, size);
-    let k = base_words::smaller(n, PowerRules::PAST_GENERAL - c.general);
+    let n = words_of(f.word, size);
+    let k = n.min(PowerRules::PAST_GENERAL - c.general);
     let s = share_of(
         f.ellipsis,
-        fprs_of(edition, t),
+        fprs_of(f.edition, t),
         PowerRules::PAST_FLOATING - c.floating,
         n,
         k,
@@ -126,10 +115,9 @@ fn next_of(word: usize, c: Cursor, a: PowerTaken) -> Cursor
     requires { Roomy c × Counted word c a.count a.covered a.share }
     ensures { result ≡ power_next word c a.count a.share }
 {
-    let s = a.share;
     Cursor {
         general: c.general + a.covered,
-        floating: c.floating + s.floating,
+        floating: c.floating + a.share.floating,
         stack: c.stack + word * a.count,
         copies: c.copies,
     }
@@ -140,22 +128,15 @@ fn place(word: usize, c: Cursor, a: PowerTaken) -> Placed
     requires { Roomy c × Counted word c a.count a.covered a.share }
     ensures { result ≡ placed_as (power_span word c a.count a.share) (power_next word c a.count a.share) }
 {
-    let general = c.general;
-    let floating = c.floating;
-    let stack = c.stack;
-    let copies = c.copies;
     let n = a.count;
-    let s = a.share;
-    let held = s.general;
-    let floats = s.floating;
-    let stored = s.memory;
+    let stored = a.share.memory;
     Placed {
         span: Span {
-            general: plan_places::register_range(general, held),
-            floating: plan_places::register_range(floating, floats),
-            home: plan_places::byte_range(stack, word * n),
-            memory: plan_places::byte_range(stack + word * (n - stored), word * stored),
-            copy: plan_places::byte_range(copies, 0),
+            general: plan_places::register_range(c.general, a.share.general),
+            floating: plan_places::register_range(c.floating, a.share.floating),
+            home: plan_places::byte_range(c.stack, word * n),
+            memory: plan_places::byte_range(c.stack + word * (n - stored), word * stored),
+            copy: plan_places::byte_range(c.copies, 0),
             indirect: false,
         },
         next: next_of(word, c, a),
@@ -166,8 +147,7 @@ pub fn step(f: PowerRules, c: Cursor, t: ValueType, size: usize) -> Placed
     requires { (4 ≤ f.word) × (f.word ≤ 8) × Roomy c × (size ≤ max_size) }
     ensures { result ≡ placed (CallRules.Power f) c t size }
 {
-    let word = f.word;
-    place(word, c, taken_of(f, c, t, size))
+    place(f.word, c, taken_of(f, c, t, size))
 }
 
 // The next cursor of the step, without the span. An ellipsis moves no cursor, so that none is looked for.
@@ -175,30 +155,24 @@ pub fn advance(f: PowerRules, c: Cursor, t: ValueType, size: usize) -> Cursor
     requires { (4 ≤ f.word) × (f.word ≤ 8) × Roomy c × (size ≤ max_size) }
     ensures { result ≡ next_of (CallRules.Power f) c t size }
 {
-    let word = f.word;
-    let edition = f.edition;
     let plain = PowerRules {
-        word: word,
-        edition: edition,
         ellipsis: false,
+        ..f
     };
-    next_of(word, c, taken_of(plain, c, t, size))
+    next_of(f.word, c, taken_of(plain, c, t, size))
 }
 
 // Whether the papers leave open where the argument goes: some FPRs are left, but fewer than its type asks for. Only the later edition's rules do.
+#[tactic(auto, using(crate::proofs::Unclear::earlier_clear, crate::proofs::Unclear::none_left, crate::proofs::Unclear::some_left))]
 pub fn is_unclear(f: PowerRules, c: Cursor, t: ValueType) -> bool
     requires { Roomy c }
     ensures { result ≡ unclear f c t }
 {
-    let edition = f.edition;
-    match edition {
+    match f.edition {
         Edition::Earlier => false,
         Edition::Later => {
             let left = PowerRules::PAST_FLOATING - c.floating;
-            if left == 0 {
-                return false;
-            }
-            left < fprs_of(edition, t)
+            left != 0 && left < fprs_of(f.edition, t)
         }
     }
 }

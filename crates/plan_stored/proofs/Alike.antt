@@ -2,18 +2,18 @@
 use mathlib.Core.Path.{◌≡◌, refl, sym, ap, ap₂, ◌∙◌}
 use mathlib.Core.Bool.{Bool, true, false}
 use mathlib.Core.List.{List, [], ◌∷◌, ◌++◌}
-use Prim.Native.Nat.{ℕ, zero, suc, ◌+◌, ◌≤◌, ◌<◌, max}
+use Prim.Native.Nat.{ℕ, suc, ◌+◌, ◌≤◌, ◌<◌, max}
 use native.Mathlib.Omega.{arith}
 use native.Mathlib.Nat.{add-zero, zero-add}
 use native.Mathlib.Numerals.{add-one}
 use borrow.Author.Tests.{eq-eqb, ne_eqb}
 use lib.Dec.{eqb}
-use lib.ListN.{length, get_or, take, drop, length-drop, drop_of_length-le}
+use lib.ListN.{length, get_or, take, drop, length-drop}
 use lib.Seq.{drop-cons, drop-drop}
 use Rattle.base_words.specs.Basics.{pick}
 use Rattle.plan_text.specs.Writing.{Wrote}
 use Rattle.base_words.proofs.Splices.{splice-same}
-use Rattle.plan_stored.specs.declared.CheckAnswer.{CheckAnswer}
+use Rattle.std.proofs.Common.{Some, None, Ok}
 use Rattle.plan_stored.specs.Stored.{alike, compared}
 
 -- ---- at most the shorter length
@@ -152,19 +152,19 @@ module _ (xs whole a b t : List ℕ) (at n to : ℕ) (w : Wrote a b 0 n t) (room
 -- ---- the answer, by the common bytes and both lengths
 
 module _ (xs ys : List ℕ) (n : ℕ) (common : n ≡ alike xs ys) where
-  pub compared-long : n < length xs → CheckAnswer.Differs n ≡ compared xs ys
+  pub compared-long : n < length xs → Ok (Some n) ≡ compared xs ys
   unfolding compared
   compared-long h =
       let other : n ≡ max (length xs) (length ys) → ⊥ = λ e. omega arith in
       rw (sym common, ne_eqb n (max (length xs) (length ys)) other)
 
-  pub compared-short : n < length ys → CheckAnswer.Differs n ≡ compared xs ys
+  pub compared-short : n < length ys → Ok (Some n) ≡ compared xs ys
   unfolding compared
   compared-short h =
       let other : n ≡ max (length xs) (length ys) → ⊥ = λ e. omega arith in
       rw (sym common, ne_eqb n (max (length xs) (length ys)) other)
 
-  pub compared-all : length xs ≤ n → length ys ≤ n → CheckAnswer.Same ≡ compared xs ys
+  pub compared-all : length xs ≤ n → length ys ≤ n → Ok None ≡ compared xs ys
   unfolding compared
   compared-all h k =
       let all : n ≡ max (length xs) (length ys) = omega (arith, common, alike-left xs ys, alike_right xs ys) in

@@ -1,4 +1,5 @@
 -- Every plan can be stored, and an accepted signature is short. Assumes nothing.
+use Rattle.std.proofs.Common.{Ok, Option}
 use mathlib.Core.Path.{◌≡◌, refl, sym, subst}
 use mathlib.Core.Bool.{Bool}
 use mathlib.Core.List.{List, [], ◌∷◌}
@@ -12,8 +13,6 @@ use Rattle.sig_types.specs.declared.ValueType.{ValueType}
 use Rattle.sig_types.specs.Sizes.{size_of}
 use Rattle.sig_items.specs.declared.Fault.{Fault}
 use Rattle.sig_items.specs.Reading.{Reading, got, no}
-use Rattle.sig_signatures.specs.declared.Outcome.{Outcome}
-use Rattle.sig_signatures.specs.declared.ResultType.{ResultType}
 use Rattle.sig_signatures.specs.Signature.{Signature}
 use Rattle.sig_signatures.specs.Limits.{max_length, max_arguments}
 use Rattle.sig_signatures.specs.Read.{signature_of}
@@ -65,7 +64,7 @@ spans-storable c r k v i (t ∷ ts) l small few g zero = span-storable r k v i t
 spans-storable c r k v i (t ∷ ts) l small few g (suc j) =
     spans-storable c r (next_of r k t (size_of c t)) (v + size_of c t) (i + 1) ts l small.1 (omega arith) (reached-more r k v i t (size_of c t) l small.0 g) j
 
-plan-storable : (n : ℕ) (c : Convention) (v : Bool) (r : ResultType) (ts : List ValueType) → All (λ (t : ValueType). size_of c t ≤ 256) ts → length ts ≤ max_arguments
+plan-storable : (n : ℕ) (c : Convention) (v : Bool) (r : Option ValueType) (ts : List ValueType) → All (λ (t : ValueType). size_of c t ≤ 256) ts → length ts ≤ max_arguments
     → (i : ℕ) → Storable (span_at (plan_in n c v r ts) i)
 unfolding plan_in
 plan-storable n c v r ts small few i =
@@ -92,10 +91,10 @@ answer-storable s = record { printable = answer-printable s; spans = spans-read 
 
 -- ---- the length of an accepted signature
 
-accepted-read : (s : List ℕ) (x : Reading Signature) (k : ℕ) → call_of s ≡ x → (plan_answer x).outcome ≡ Outcome.Accepted k → length s ≤ max_length
+accepted-read : (s : List ℕ) (x : Reading Signature) (k : ℕ) → call_of s ≡ x → (plan_answer x).outcome ≡ Ok k → length s ≤ max_length
 unfolding plan_answer plan_in
 accepted-read s (got g next n) k e h = let r = signature-read s g next n (called-got (signature_of s) g next n e) in omega (arith, r.size, r.within.short)
 accepted-read s (no f) k e h = let z : ◌≡◌ {A = ℕ} 0 1 = cc in absurd (omega arith)
 
-pub accepted-short : (s : List ℕ) (k : ℕ) → outcome_for s ≡ Outcome.Accepted k → length s ≤ max_length
+pub accepted-short : (s : List ℕ) (k : ℕ) → outcome_for s ≡ Ok k → length s ≤ max_length
 accepted-short s k h = accepted-read s (call_of s) k refl h

@@ -1,4 +1,5 @@
 -- Whole stored plans, worked out on the definitions: two bytes in the place of a signature, and a plan. Each computes. Assumes nothing.
+use Rattle.std.proofs.Common.{Some}
 use mathlib.Core.Path.{◌≡◌, refl}
 use mathlib.Core.Bool.{true, false}
 use mathlib.Core.List.{List, [], ◌∷◌}
@@ -10,7 +11,6 @@ use Rattle.sig_types.specs.declared.FloatFormat.{FloatFormat}
 use Rattle.sig_types.specs.declared.IntegerKind.{IntegerKind}
 use Rattle.sig_types.specs.declared.ValueType.{ValueType}
 use Rattle.sig_items.specs.Encode.{item}
-use Rattle.sig_signatures.specs.declared.ResultType.{ResultType}
 use Rattle.plan_places.specs.Power.{words, fprs, share_of, power_share}
 use Rattle.plan_places.specs.ZSeries.{z_class, z_span_of, z_next_of}
 use Rattle.plan_places.specs.Step.{with_ellipsis, span_of, next_of, fresh_cursor, start_of, hidden_for, result_of}
@@ -34,7 +34,7 @@ abbrev signature : List ℕ
 signature = 0xaa ∷ 0xbb ∷ []
 
 -- Z, a long double's result: hidden r2; a struct's copy at 0, with its address in r3; a double in f0
-pub on-z : plan_bytes signature (plan_in 0 Convention.Z false (ResultType.Value quad) (pair ∷ double ∷ []))
+pub on-z : plan_bytes signature (plan_in 0 Convention.Z false (Some quad) (pair ∷ double ∷ []))
     ≡ 0x20 ∷ 0 ∷ 2 ∷ 0xaa ∷ 0xbb
     ∷ 0x21 ∷ 0 ∷ 10 ∷ 0 ∷ 0 ∷ 3 ∷ 0 ∷ 0 ∷ 2 ∷ 0 ∷ 0 ∷ 0 ∷ 0
     ∷ 0x21 ∷ 0 ∷ 5 ∷ 0 ∷ 1 ∷ 0 ∷ 0 ∷ 0
@@ -43,7 +43,7 @@ unfolding round_up plan_bytes plan_in table_of spans_of span_of next_of with_ell
 on-z = refl
 
 -- AIX with an ellipsis, a struct's result: hidden r3; a struct in r4 to r7, an int in r8 and one in r9; a double in f1, in r10 and in memory
-pub on-aix : plan_bytes signature (plan_in 0 Convention.Aix true (ResultType.Value pair) (pair ∷ int ∷ int ∷ double ∷ []))
+pub on-aix : plan_bytes signature (plan_in 0 Convention.Aix true (Some pair) (pair ∷ int ∷ int ∷ double ∷ []))
     ≡ 0x20 ∷ 0 ∷ 2 ∷ 0xaa ∷ 0xbb
     ∷ 0x21 ∷ 0 ∷ 20 ∷ 0 ∷ 0 ∷ 4 ∷ 0 ∷ 4 ∷ 0 ∷ 0 ∷ 5 ∷ 0 ∷ 8 ∷ 0 ∷ 0 ∷ 6 ∷ 0 ∷ 12 ∷ 0 ∷ 0 ∷ 7 ∷ 0 ∷ 16
     ∷ 0x21 ∷ 0 ∷ 5 ∷ 0 ∷ 0 ∷ 8 ∷ 0 ∷ 20

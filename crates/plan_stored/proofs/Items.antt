@@ -1,11 +1,11 @@
 -- The items of arguments, one more: for what is written so far, and for what is still to come. Assumes nothing.
-use mathlib.Core.Path.{◌≡◌, sym, ap, ◌∙◌}
+use mathlib.Core.Path.{◌≡◌, sym, ap, subst, ◌∙◌}
 use mathlib.Core.List.{List, [], ◌∷◌, ◌++◌, append_assoc, append-nil}
 use Prim.Native.Nat.{ℕ, suc, ◌+◌, ◌/◌, ◌%◌, ◌<◌, ◌≤◌}
 use native.Mathlib.Omega.{arith}
 use native.Mathlib.Numerals.{add-one}
 use lib.ListN.{length, get_or, take, drop, length-append, drop_of_length-le}
-use lib.Seq.{take-suc, drop-cons}
+use lib.Seq.{take-suc, drop-cons, get_or-take, length-take-le}
 use Rattle.plan_places.specs.declared.CallRules.{CallRules}
 use Rattle.plan_places.specs.declared.Span.{Span}
 use Rattle.plan_plans.specs.Plan.{no_span}
@@ -16,6 +16,8 @@ use Rattle.plan_places.specs.Step.{rules_of}
 use Rattle.plan_plans.specs.declared.Plan.{Plan}
 use Rattle.plan_stored_items.specs.Places.{argument_item, result_item}
 use Rattle.plan_stored.specs.Stored.{argument_items, plan_bytes}
+use Rattle.plan_stored_items.specs.Helpers.{Storable}
+use Rattle.plan_stored.specs.Helpers.{Writable}
 use Rattle.plan_stored.proofs.Alike.{Abreast, abreast-start}
 
 items-snoc : (r : CallRules) (ss : List Span) (s : Span) → argument_items r (ss ++ s ∷ []) ≡ argument_items r ss ++ argument_item r s
@@ -53,3 +55,10 @@ pub plan-start : (xs s : List ℕ) (p : Plan)
     ((0x20 ∷ length s / 256 ∷ length s % 256 ∷ []) ++ (s ++ (argument_items (rules_of p.convention) (take p.count p.spans) ++ result_item p.result))) 0
 unfolding plan_bytes item
 plan-start xs s p = abreast-start xs (plan_bytes s p)
+
+-- each of a plan's spans can be stored
+pub taken-storable : (p : Plan) (i : ℕ) → Writable p → i < length (take p.count p.spans) → Storable (get_or (take p.count p.spans) i no_span)
+taken-storable p i w h =
+    let many = length-take-le p.count p.spans w.printable.room in
+    let same = get_or-take p.count p.spans i no_span (omega arith) in
+    subst Storable (sym same) (w.spans i)

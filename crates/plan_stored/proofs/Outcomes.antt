@@ -8,14 +8,13 @@ use lib.ListN.{length}
 use Rattle.base_words.specs.Splice.{overlay}
 use Rattle.base_words.proofs.Splices.{splice-head}
 use Rattle.sig_items.specs.declared.Fault.{Fault}
-use Rattle.sig_signatures.specs.declared.Outcome.{Outcome}
 use Rattle.sig_signatures.specs.Limits.{max_length}
 use Rattle.plan_plans.specs.declared.Plan.{Plan}
 use Rattle.plan_plans.specs.Plan.{plan_answer}
 use Rattle.plan_plans.specs.Call.{call_of, outcome_for}
 use Rattle.plan_text.specs.Writing.{Wrote}
-use Rattle.plan_stored.specs.declared.StoreAnswer.{StoreAnswer}
-use Rattle.plan_stored.specs.declared.CheckAnswer.{CheckAnswer}
+use Rattle.plan_stored.specs.declared.StoreRefusal.{StoreRefusal}
+use Rattle.std.proofs.Common.{Option, Result, Ok, Err}
 use Rattle.plan_stored.specs.Stored.{plan_bytes, stored_of, length_answer, store_answer, stored_buffer, compared, check_answer}
 use Rattle.plan_stored.specs.Helpers.{Writable}
 use Rattle.plan_stored.proofs.Answers.{answer-storable, accepted-short}
@@ -24,51 +23,51 @@ module _ (s : List ℕ) (p : Plan) (made : p ≡ plan_answer (call_of s)) where
   pub writable : Writable p
   writable = subst Writable (sym made) (answer-storable s)
 
-  same_outcome : (o : Outcome) → p.outcome ≡ o → outcome_for s ≡ o
+  same_outcome : (o : Result ℕ Fault) → p.outcome ≡ o → outcome_for s ≡ o
   same_outcome o h = sym (ap (λ (x : Plan). x.outcome) made) ∙ h
 
   same_bytes_lem : plan_bytes s p ≡ stored_of s
   unfolding stored_of
   same_bytes_lem = ap (plan_bytes s) made
 
-  module _ (f : Fault) (no : p.outcome ≡ Outcome.Refused f) where
-    pub length-refused : StoreAnswer.Refused f ≡ length_answer s
+  module _ (f : Fault) (no : p.outcome ≡ Err f) where
+    pub length-refused : Err (StoreRefusal.Unread f) ≡ length_answer s
     unfolding length_answer
-    length-refused = rw (same_outcome (Outcome.Refused f) no)
+    length-refused = rw (same_outcome (Err f) no)
 
-    pub store-refused : (buffer : List ℕ) → (StoreAnswer.Refused f ≡ store_answer s (length buffer)) × (buffer ≡ stored_buffer s buffer)
+    pub store-refused : (buffer : List ℕ) → (Err (StoreRefusal.Unread f) ≡ store_answer s (length buffer)) × (buffer ≡ stored_buffer s buffer)
     unfolding store_answer stored_buffer
-    store-refused buffer = (rw (same_outcome (Outcome.Refused f) no), rw (same_outcome (Outcome.Refused f) no))
+    store-refused buffer = (rw (same_outcome (Err f) no), rw (same_outcome (Err f) no))
 
-    pub check-refused : (stored : List ℕ) → CheckAnswer.Refused f ≡ check_answer stored s
+    pub check-refused : (stored : List ℕ) → Err f ≡ check_answer stored s
     unfolding check_answer
-    check-refused stored = rw (same_outcome (Outcome.Refused f) no)
+    check-refused stored = rw (same_outcome (Err f) no)
 
-  module _ (k : ℕ) (yes : p.outcome ≡ Outcome.Accepted k) where
+  module _ (k : ℕ) (yes : p.outcome ≡ Ok k) where
     pub short : length s ≤ max_length
-    short = accepted-short s k (same_outcome (Outcome.Accepted k) yes)
+    short = accepted-short s k (same_outcome (Ok k) yes)
 
-    pub length-accepted : (n : ℕ) → n ≡ length (plan_bytes s p) → StoreAnswer.Stored n ≡ length_answer s
+    pub length-accepted : (n : ℕ) → n ≡ length (plan_bytes s p) → Ok n ≡ length_answer s
     unfolding length_answer
-    length-accepted n e = rw (same_outcome (Outcome.Accepted k) yes) (ap StoreAnswer.Stored (e ∙ ap length same_bytes_lem))
+    length-accepted n e = rw (same_outcome (Ok k) yes) (ap Ok (e ∙ ap length same_bytes_lem))
 
     pub store-short : (buffer : List ℕ) (n : ℕ) → n ≡ length (plan_bytes s p) → length buffer < n
-        → (StoreAnswer.TooShort ≡ store_answer s (length buffer)) × (buffer ≡ stored_buffer s buffer)
+        → (Err StoreRefusal.TooShort ≡ store_answer s (length buffer)) × (buffer ≡ stored_buffer s buffer)
     unfolding store_answer stored_buffer
     store-short buffer n e h =
         let less : length buffer < length (stored_of s) = omega (arith, ap length same_bytes_lem) in
-        (rw (same_outcome (Outcome.Accepted k) yes, lt-ltb (length buffer) (length (stored_of s)) less), rw (same_outcome (Outcome.Accepted k) yes, lt-ltb (length buffer) (length (stored_of s)) less))
+        (rw (same_outcome (Ok k) yes, lt-ltb (length buffer) (length (stored_of s)) less), rw (same_outcome (Ok k) yes, lt-ltb (length buffer) (length (stored_of s)) less))
 
     pub store-accepted : (buffer after : List ℕ) (n m : ℕ) → n ≡ length (plan_bytes s p) → n ≤ length buffer → Wrote buffer after 0 m (plan_bytes s p)
-        → (StoreAnswer.Stored m ≡ store_answer s (length buffer)) × (after ≡ stored_buffer s buffer)
+        → (Ok m ≡ store_answer s (length buffer)) × (after ≡ stored_buffer s buffer)
     unfolding store_answer stored_buffer
     store-accepted buffer after n m e h w =
         let room : length (stored_of s) ≤ length buffer = omega (arith, ap length same_bytes_lem) in
         let end : m ≡ length (stored_of s) = omega (arith, w.end, ap length same_bytes_lem) in (
-          rw (same_outcome (Outcome.Accepted k) yes, le-ltb (length buffer) (length (stored_of s)) room) (ap StoreAnswer.Stored end),
-          rw (same_outcome (Outcome.Accepted k) yes, le-ltb (length buffer) (length (stored_of s)) room) (w.bytes ∙ splice-head buffer (plan_bytes s p) ∙ ap (overlay buffer) same_bytes_lem),
+          rw (same_outcome (Ok k) yes, le-ltb (length buffer) (length (stored_of s)) room) (ap Ok end),
+          rw (same_outcome (Ok k) yes, le-ltb (length buffer) (length (stored_of s)) room) (w.bytes ∙ splice-head buffer (plan_bytes s p) ∙ ap (overlay buffer) same_bytes_lem),
         )
 
-    pub check-accepted : (stored : List ℕ) (a : CheckAnswer) → a ≡ compared stored (plan_bytes s p) → a ≡ check_answer stored s
+    pub check-accepted : (stored : List ℕ) (a : Result (Option ℕ) Fault) → a ≡ compared stored (plan_bytes s p) → a ≡ check_answer stored s
     unfolding check_answer
-    check-accepted stored a e = rw (same_outcome (Outcome.Accepted k) yes) (e ∙ ap (compared stored) same_bytes_lem)
+    check-accepted stored a e = rw (same_outcome (Ok k) yes) (e ∙ ap (compared stored) same_bytes_lem)

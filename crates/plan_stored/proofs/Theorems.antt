@@ -6,19 +6,18 @@ use Prim.Native.Nat.{ℕ, zero, suc, ◌+◌, ◌/◌, ◌%◌, ◌≤◌, ◌<�
 use native.Mathlib.Omega.{arith}
 use borrow.Author.Tests.{eq-eqb, ne_eqb, eqb-true, eqb-false, ltb-false}
 use lib.Dec.{ltb, eqb}
-use lib.ListN.{length, get_or, set, take, drop, length-append, length-set}
-use lib.Seq.{take_at, drop_at, length-take-le}
+use lib.ListN.{length, get_or, set, take, drop, length-append}
+use lib.Seq.{take_at, drop_at}
 use Rattle.base_words.specs.Basics.{pick}
 use Rattle.base_words.specs.Splice.{overlay}
 use Rattle.base_words.proofs.Splices.{overlay-is}
 use Rattle.sig_items.specs.declared.Fault.{Fault}
 use Rattle.sig_items.specs.Encode.{item}
-use Rattle.sig_signatures.specs.declared.Outcome.{Outcome}
 use Rattle.plan_plans.specs.Call.{outcome_for}
-use Rattle.plan_stored.specs.declared.StoreAnswer.{StoreAnswer}
-use Rattle.plan_stored.specs.declared.CheckAnswer.{CheckAnswer}
-use Rattle.plan_stored.specs.Stored.{plan_bytes, stored_of, store_by, store_answer, buffer_by, stored_buffer, alike, compared_to, compared, check_by, check_answer}
-use Rattle.plan_stored.specs.Exact.{Accepts, ChecksExactly, Written, WrittenIsFresh, FormsApart, OthersStale, FirstDifference, DiffersFirst, ChangeFound, CutFound, ExtensionFound}
+use Rattle.plan_stored.specs.declared.StoreRefusal.{StoreRefusal}
+use Rattle.std.proofs.Common.{Option, Some, None, Result, Ok, Err}
+use Rattle.plan_stored.specs.Stored.{plan_bytes, stored_of, store_by, store_answer, buffer_by, stored_buffer, alike, compared, check_by, check_answer}
+use Rattle.plan_stored.specs.Exact.{Accepts, ChecksExactly, WrittenIsFresh, FormsApart, OthersStale, FirstDifference, DiffersFirst, ChangeFound, CutFound, ExtensionFound}
 use Rattle.plan_stored.proofs.Alike.{alike-left, alike_right, compared-long, compared-short, compared-all}
 
 -- ---- comparing
@@ -28,7 +27,7 @@ unfolding alike
 alike_self [] = refl
 alike_self (x ∷ xs) = rw (eq-eqb x x refl) (ap suc (alike_self xs))
 
-compared-self : (xs : List ℕ) → compared xs xs ≡ CheckAnswer.Same
+compared-self : (xs : List ℕ) → compared xs xs ≡ Ok None
 compared-self xs = let n = alike_self xs in sym (compared-all xs xs (length xs) (sym n) (omega arith) (omega arith))
 
 -- the bytes in common are the same
@@ -56,7 +55,7 @@ alike-ends (x ∷ xs) (y ∷ ys) h = go (eqb x y) refl h (alike-ends xs ys)
     go true q e more = ap₂ (λ (a : ℕ) (l : List ℕ). a ∷ l) (eqb-true x y q) (more e)
     go false q e more = absurd (eqb-false x y q (ap (λ (l : List ℕ). get_or l 0 0) e))
 
-different : (i : ℕ) → CheckAnswer.Differs i ≡ CheckAnswer.Same → ⊥
+different : (i : ℕ) → ◌≡◌ {A = Result (Option ℕ) Fault} (Ok (Some i)) (Ok None) → ⊥
 different i e = let z : ◌≡◌ {A = ℕ} 0 1 = cc in omega arith
 
 -- both ends of what they have in common: nothing is left of either
@@ -72,23 +71,23 @@ all_alike (x ∷ xs) (y ∷ ys) h = go (eqb x y) refl h (all_alike xs ys)
     go true q e more = ap₂ (λ (a : ℕ) (l : List ℕ). a ∷ l) (eqb-true x y q) (more (omega arith))
     go false q e more = absurd (omega arith)
 
-same-compared : (xs ys : List ℕ) → compared xs ys ≡ CheckAnswer.Same → xs ≡ ys
+same-compared : (xs ys : List ℕ) → compared xs ys ≡ Ok None → xs ≡ ys
 unfolding compared
 same-compared xs ys = go (eqb (alike xs ys) (max (length xs) (length ys))) refl
   where
-    go : (b : Bool) → eqb (alike xs ys) (max (length xs) (length ys)) ≡ b → pick b CheckAnswer.Same (CheckAnswer.Differs (alike xs ys)) ≡ CheckAnswer.Same → xs ≡ ys
+    go : (b : Bool) → eqb (alike xs ys) (max (length xs) (length ys)) ≡ b → ◌≡◌ {A = Result (Option ℕ) Fault} (pick b (Ok None) (Ok (Some (alike xs ys)))) (Ok None) → xs ≡ ys
     go true q e = all_alike xs ys (eqb-true (alike xs ys) (max (length xs) (length ys)) q)
     go false q e = absurd (different (alike xs ys) e)
 
-differs_at : (xs ys : List ℕ) (i : ℕ) → compared xs ys ≡ CheckAnswer.Differs i → alike xs ys ≡ i
+differs_at : (xs ys : List ℕ) (i : ℕ) → compared xs ys ≡ Ok (Some i) → alike xs ys ≡ i
 unfolding compared
 differs_at xs ys i = go (eqb (alike xs ys) (max (length xs) (length ys)))
   where
-    go : (b : Bool) → pick b CheckAnswer.Same (CheckAnswer.Differs (alike xs ys)) ≡ CheckAnswer.Differs i → alike xs ys ≡ i
+    go : (b : Bool) → ◌≡◌ {A = Result (Option ℕ) Fault} (pick b (Ok None) (Ok (Some (alike xs ys)))) (Ok (Some i)) → alike xs ys ≡ i
     go true e = absurd (different i (sym e))
     go false e = cc
 
-compared-other : (xs ys : List ℕ) → (xs ≡ ys → ⊥) → compared xs ys ≡ CheckAnswer.Differs (alike xs ys)
+compared-other : (xs ys : List ℕ) → (xs ≡ ys → ⊥) → compared xs ys ≡ Ok (Some (alike xs ys))
 unfolding compared
 compared-other xs ys other = rw (ne_eqb (alike xs ys) (max (length xs) (length ys)) (λ e. other (all_alike xs ys e)))
 
@@ -98,21 +97,21 @@ accepted-check : (stored s : List ℕ) → Accepts s → check_answer stored s �
 unfolding check_answer
 accepted-check stored s a = rw a.outcome
 
-by-outcome : (o : Outcome) (stored t s : List ℕ) → outcome_for s ≡ o → check_by o stored t ≡ CheckAnswer.Same → Accepts s × (stored ≡ t)
-by-outcome (Outcome.Accepted k) stored t s e h = (record { items = k; outcome = e }, same-compared stored t h)
-by-outcome (Outcome.Refused f) stored t s e h = let z : ◌≡◌ {A = ℕ} 0 1 = cc in absurd (omega arith)
+by-outcome : (o : Result ℕ Fault) (stored t s : List ℕ) → outcome_for s ≡ o → check_by o stored t ≡ Ok None → Accepts s × (stored ≡ t)
+by-outcome (Ok k) stored t s e h = (record { items = k; outcome = e }, same-compared stored t h)
+by-outcome (Err f) stored t s e h = let z : ◌≡◌ {A = ℕ} 0 1 = cc in absurd (omega arith)
 
-refused-by : (o : Outcome) (stored t : List ℕ) (f : Fault) → check_by o stored t ≡ CheckAnswer.Refused f → o ≡ Outcome.Refused f
+refused-by : (o : Result ℕ Fault) (stored t : List ℕ) (f : Fault) → check_by o stored t ≡ Err f → o ≡ Err f
 unfolding compared
-refused-by (Outcome.Accepted k) stored t f h = absurd (go (eqb (alike stored t) (max (length stored) (length t))) h)
+refused-by (Ok k) stored t f h = absurd (go (eqb (alike stored t) (max (length stored) (length t))) h)
   where
-    go : (b : Bool) → pick b CheckAnswer.Same (CheckAnswer.Differs (alike stored t)) ≡ CheckAnswer.Refused f → ⊥
+    go : (b : Bool) → pick b (Ok None) (Ok (Some (alike stored t))) ≡ Err f → ⊥
     go true e = let z : ◌≡◌ {A = ℕ} 0 1 = cc in omega arith
     go false e = let z : ◌≡◌ {A = ℕ} 0 1 = cc in omega arith
-refused-by (Outcome.Refused g) stored t f h = cc
+refused-by (Err g) stored t f h = cc
 
 -- a refusal other than 27 is the call's own
-pub refused-check : (stored s : List ℕ) (f : Fault) → check_answer stored s ≡ CheckAnswer.Refused f → outcome_for s ≡ Outcome.Refused f
+pub refused-check : (stored s : List ℕ) (f : Fault) → check_answer stored s ≡ Err f → outcome_for s ≡ Err f
 unfolding check_answer
 refused-check stored s f h = refused-by (outcome_for s) stored (stored_of s) f h
 
@@ -125,19 +124,19 @@ checks-exactly stored s = record {
 
 -- ---- what was written
 
-written-by : (o : Outcome) (t buffer : List ℕ) (n : ℕ) → store_by o (length t) (length buffer) ≡ StoreAnswer.Stored n
+written-by : (o : Result ℕ Fault) (t buffer : List ℕ) (n : ℕ) → store_by o (length t) (length buffer) ≡ Ok n
     → (n ≡ length t) × (buffer_by o t buffer ≡ t ++ drop (length t) buffer)
-written-by (Outcome.Accepted k) t buffer n h = go (ltb (length buffer) (length t)) refl h
+written-by (Ok k) t buffer n h = go (ltb (length buffer) (length t)) refl h
   where
-    go : (b : Bool) → ltb (length buffer) (length t) ≡ b → pick b StoreAnswer.TooShort (StoreAnswer.Stored (length t)) ≡ StoreAnswer.Stored n
+    go : (b : Bool) → ltb (length buffer) (length t) ≡ b → pick b (Err StoreRefusal.TooShort) (Ok (length t)) ≡ Ok n
         → (n ≡ length t) × (pick b buffer (overlay buffer t) ≡ t ++ drop (length t) buffer)
     go true q e = let z : ◌≡◌ {A = ℕ} 0 1 = cc in absurd (omega arith)
     go false q e = let same : n ≡ length t = cc in (same, overlay-is buffer t (ltb-false (length buffer) (length t) q))
-written-by (Outcome.Refused f) t buffer n h = let z : ◌≡◌ {A = ℕ} 0 1 = cc in absurd (omega arith)
+written-by (Err f) t buffer n h = let z : ◌≡◌ {A = ℕ} 0 1 = cc in absurd (omega arith)
 
-accepted-by : (o : Outcome) (s : List ℕ) (m room n : ℕ) → outcome_for s ≡ o → store_by o m room ≡ StoreAnswer.Stored n → Accepts s
-accepted-by (Outcome.Accepted k) s m room n e h = record { items = k; outcome = e }
-accepted-by (Outcome.Refused f) s m room n e h = let z : ◌≡◌ {A = ℕ} 0 1 = cc in absurd (omega arith)
+accepted-by : (o : Result ℕ Fault) (s : List ℕ) (m room n : ℕ) → outcome_for s ≡ o → store_by o m room ≡ Ok n → Accepts s
+accepted-by (Ok k) s m room n e h = record { items = k; outcome = e }
+accepted-by (Err f) s m room n e h = let z : ◌≡◌ {A = ℕ} 0 1 = cc in absurd (omega arith)
 
 pub written-is-fresh : WrittenIsFresh
 unfolding store_answer stored_buffer
@@ -171,8 +170,8 @@ others-stale s u other a = accepted-check (stored_of s) u a ∙ compared-other (
 
 -- ---- 27's place
 
-first_by : (o : Outcome) (stored t : List ℕ) (i : ℕ) → check_by o stored t ≡ CheckAnswer.Differs i → FirstDifference stored t i
-first_by (Outcome.Accepted k) stored t i h =
+first_by : (o : Result ℕ Fault) (stored t : List ℕ) (i : ℕ) → check_by o stored t ≡ Ok (Some i) → FirstDifference stored t i
+first_by (Ok k) stored t i h =
     let at = differs_at stored t i h in
     let left = alike-left stored t in
     let right = alike_right stored t in
@@ -184,7 +183,7 @@ first_by (Outcome.Accepted k) stored t i h =
           let same : stored ≡ t = alike-ends stored t (subst (λ (n : ℕ). take 1 (drop n stored) ≡ take 1 (drop n t)) (sym at) e) in
           different i (sym h ∙ ap (λ (l : List ℕ). compared l t) same ∙ compared-self t);
     }
-first_by (Outcome.Refused f) stored t i h = let z : ◌≡◌ {A = ℕ} 0 1 = cc in absurd (omega arith)
+first_by (Err f) stored t i h = let z : ◌≡◌ {A = ℕ} 0 1 = cc in absurd (omega arith)
 
 pub differs-first : DiffersFirst
 unfolding check_answer

@@ -57,39 +57,29 @@ fn put_place(bytes: &mut [u8], at: usize, p: StoredPlace) -> usize
     requires { at < 2 ^ 31 }
     ensures { Wrote bytes.old bytes.new at result (place_bytes p) × (result ≡ at + 5) }
 {
-    let kind = p.kind;
-    let bank = p.bank;
-    let number = p.number;
-    let offset = p.offset as usize;
-    let a = put_byte(bytes, at, kind);
-    let b = put_byte(bytes, a, bank);
-    let d = put_byte(bytes, b, number);
-    put_two(bytes, d, offset)
+    let a = put_byte(bytes, at, p.kind);
+    let b = put_byte(bytes, a, p.bank);
+    let d = put_byte(bytes, b, p.number);
+    put_two(bytes, d, p.offset as usize)
 }
 
 fn put_places(bytes: &mut [u8], at: usize, q: PlaceRun) -> usize
     requires { (at < 2 ^ 30) × RunFits q }
     ensures { Wrote bytes.old bytes.new at result (places_bytes (places_in q)) × (result ≡ at + 5 * q.count) }
 {
-    let kind = q.kind;
-    let bank = q.bank;
-    let on = q.on;
-    let by = q.by;
     let mut number = q.number;
     let mut offset = q.offset;
-    let mut left = q.count;
     let mut next = at;
-    while 0 < left {
+    for i in 0..q.count {
         let p = StoredPlace {
-            kind,
-            bank,
+            kind: q.kind,
+            bank: q.bank,
             number: number as u8,
             offset: offset as u16,
         };
         next = put_place(bytes, next, p);
-        number = number + on;
-        offset = offset + by;
-        left = left - 1;
+        number += q.on;
+        offset += q.by;
     }
     next
 }
@@ -143,40 +133,35 @@ fn floating_run(rules: CallRules, s: Span) -> PlaceRun
     requires { Storable s }
     ensures { (result ≡ floating_run rules s) × RunFits result × (result.count ≤ 32) }
 {
-    let home = s.home;
-    let registers = s.floating;
-    let offset = bytes_in_area(rules, home.start as usize);
+    let offset = bytes_in_area(rules, s.home.start as usize);
     let by = bytes_in_area(rules, 8);
-    register_run(1, registers, offset, by)
+    register_run(1, s.floating, offset, by)
 }
 
 fn general_run(rules: CallRules, s: Span) -> PlaceRun
     requires { LawfulCalls rules × Storable s }
     ensures { (result ≡ general_run rules s) × RunFits result × (result.count ≤ 32) }
 {
-    let home = s.home;
-    let registers = s.general;
-    let offset = bytes_in_area(rules, home.start as usize);
+    let offset = bytes_in_area(rules, s.home.start as usize);
     let word = plan_places::word_of(rules);
     let by = bytes_in_area(rules, word);
-    register_run(0, registers, offset, by)
+    register_run(0, s.general, offset, by)
 }
 
 fn memory_run(rules: CallRules, s: Span) -> PlaceRun
     requires { LawfulCalls rules × Storable s }
     ensures { (result ≡ memory_run rules s) × RunFits result × (result.count ≤ 66) }
 {
-    let memory = s.memory;
     let by = plan_places::word_of(rules);
     let from = listed_from(rules);
-    let count = words_in(rules, memory.length as usize);
+    let count = words_in(rules, s.memory.length as usize);
     PlaceRun {
         kind: 1,
         bank: 0,
         on: 0,
         by,
         number: 0,
-        offset: from + memory.start as usize,
+        offset: from + s.memory.start as usize,
         count,
     }
 }
@@ -185,16 +170,14 @@ fn copy_run(s: Span) -> PlaceRun
     requires { Storable s }
     ensures { (result ≡ copy_run s) × RunFits result × (result.count ≤ 1) }
 {
-    let copy = s.copy;
-    let indirect = s.indirect;
-    let count = base_words::flag(indirect) as usize;
+    let count = usize::from(s.indirect);
     PlaceRun {
         kind: 2,
         bank: 0,
         on: 0,
         by: 0,
         number: 0,
-        offset: copy.start as usize,
+        offset: s.copy.start as usize,
         count,
     }
 }
@@ -221,13 +204,9 @@ pub fn argument_length(rules: CallRules, s: Span) -> usize
     requires { LawfulCalls rules × Storable s }
     ensures { (result ≡ length (argument_item rules s)) × (result ≤ 658) }
 {
-    let floating = s.floating;
-    let general = s.general;
-    let memory = s.memory;
-    let indirect = s.indirect;
-    let words = words_in(rules, memory.length as usize);
-    let copies = base_words::flag(indirect) as usize;
-    3 + 5 * (floating.count as usize + (general.count as usize + (words + copies)))
+    let words = words_in(rules, s.memory.length as usize);
+    let copies = usize::from(s.indirect);
+    3 + 5 * (s.floating.count as usize + (s.general.count as usize + (words + copies)))
 }
 
 fn no_places() -> PlaceRun
@@ -250,22 +229,13 @@ fn result_first(x: ResultPlaces) -> PlaceRun
 {
     match x {
         ResultPlaces::Nothing => no_places(),
-        ResultPlaces::Registers(s) => {
-            let registers = s.floating;
-            register_run(1, registers, 0, 0)
-        }
-        ResultPlaces::Hidden(s) => {
-            let registers = s.general;
-            PlaceRun {
-                kind: 3,
-                bank: 0,
-                on: 0,
-                by: 0,
-                number: registers.first as usize,
-                offset: 0,
-                count: 1,
-            }
-        }
+        ResultPlaces::Registers(s) => register_run(1, s.floating, 0, 0),
+        ResultPlaces::Hidden(s) => PlaceRun {
+            kind: 3,
+            number: s.general.first as usize,
+            count: 1,
+            ..no_places()
+        },
     }
 }
 
@@ -274,12 +244,8 @@ fn result_second(x: ResultPlaces) -> PlaceRun
     ensures { (result ≡ result_second x) × RunFits result × (result.count ≤ 32) }
 {
     match x {
-        ResultPlaces::Nothing => no_places(),
-        ResultPlaces::Registers(s) => {
-            let registers = s.general;
-            register_run(0, registers, 0, 0)
-        }
-        ResultPlaces::Hidden(_) => no_places(),
+        ResultPlaces::Nothing | ResultPlaces::Hidden(_) => no_places(),
+        ResultPlaces::Registers(s) => register_run(0, s.general, 0, 0),
     }
 }
 

@@ -22,10 +22,8 @@ pub fn put_bytes(text: &mut [u8], at: usize, bs: &[u8]) -> usize
     ensures { Wrote text.old text.new at result bs.now }
 {
     let mut next = at;
-    let mut i: usize = 0;
-    while i < bs.len() {
-        next = put_byte(text, next, bs[i]);
-        i = i + 1;
+    for b in bs {
+        next = put_byte(text, next, *b);
     }
     next
 }

@@ -1,4 +1,7 @@
 -- The rows from the arguments on are the entries of the whole reading. Assumes nothing.
+use Rattle.sig_signatures.specs.declared.Head.{Head}
+use Rattle.sig_types.specs.declared.ValueType.{ValueType}
+use Rattle.std.proofs.Common.{Result, Option}
 use mathlib.Core.Path.{◌≡◌, refl, sym, ap, ◌∙◌}
 use mathlib.Core.Bool.{Bool, true, false}
 use mathlib.Core.List.{List, [], ◌∷◌, ◌++◌}
@@ -8,7 +11,7 @@ use native.Mathlib.Numerals.{add-one}
 use lib.ListN.{length, get_or, replicate, get_or-append}
 use lib.Seq.{get_or_at}
 use lib.Dec.{ltb}
-use borrow.Author.Tests.{le-ltb, eq-eqb, ne_eqb}
+use borrow.Author.Tests.{eq-eqb, ne_eqb}
 use Rattle.base_words.specs.Basics.{pick}
 use Rattle.base_conventions.specs.declared.Convention.{Convention}
 use Rattle.sig_types.specs.Sizes.{size_of}
@@ -16,19 +19,14 @@ use Rattle.sig_types.specs.Trees.{Tree, Trees, none, ◌▸◌, type_of, count_o
 use Rattle.sig_items.specs.declared.Refusal.{Refusal}
 use Rattle.sig_items.specs.declared.Fault.{Fault}
 use Rattle.sig_items.specs.Reading.{Reading, fault, got, no, later}
-use Rattle.sig_signatures.specs.declared.ResultType.{ResultType}
-use Rattle.sig_signatures.specs.declared.HeadRead.{HeadRead}
-use Rattle.sig_signatures.specs.declared.SignatureRead.{SignatureRead}
-use Rattle.sig_signatures.specs.Signature.{Result, Signature}
+use Rattle.sig_signatures.specs.Signature.{ResultTree, Signature}
 use Rattle.sig_signatures.specs.Limits.{max_arguments}
 use Rattle.sig_signatures.specs.Read.{arguments_in, signature_of, head_of}
-use Rattle.sig_signatures.specs.Answer.{accepted, result_type, head_answer, signature_answer}
-use Rattle.sig_signatures.specs.Helpers.{with_arguments, SmallResult}
-use Rattle.sig_signatures.proofs.Laws.{then_arguments, signature-arguments}
+use Rattle.sig_signatures.specs.Answer.{result_type, head_answer, signature_answer, head_found}
+use Rattle.sig_signatures.proofs.Laws.{then_arguments}
 use Rattle.sig_signatures.specs.Types.{values_of, types_of}
-use Rattle.sig_signatures.proofs.Types.{length-of-types, answer-plannable}
-use Rattle.sig_reader.specs.declared.ArgumentRead.{ArgumentRead}
-use Rattle.sig_reader.specs.Argument.{argument_in, arguments_place, argument_of, item_in, unclear_fault}
+use Rattle.sig_signatures.proofs.Types.{length-of-types}
+use Rattle.sig_reader.specs.Argument.{argument_in, arguments_place, argument_of, item_in, unclear_fault, argument_found}
 use Rattle.sig_reader.proofs.Found.{begun}
 use Rattle.plan_places.specs.declared.Cursor.{Cursor}
 use Rattle.plan_places.specs.declared.Span.{Span}
@@ -49,11 +47,11 @@ same-append : {a b x y : List ℕ} → a ≡ b → x ≡ y → a ++ x ≡ b ++ y
 same-append p q = cc
 
 -- A reading of the arguments ts, and its entries one by one: an argument more changes nothing of those before it.
-module _ (c : Convention) (g : Result) (v : Bool) (next n : ℕ) where
+module _ (c : Convention) (g : ResultTree) (v : Bool) (next n : ℕ) where
   abbrev start : ℕ
   start = arguments_place g v
 
-  abbrev r : ResultType
+  abbrev r : Option ValueType
   r = result_type c g
 
   abbrev read : Trees → Reading Signature
@@ -85,7 +83,7 @@ module _ (c : Convention) (g : Result) (v : Bool) (next n : ℕ) where
     unfolding argument_in
     argument-same i h = rw (ne_eqb i (count_of ts) (λ q. omega arith))
 
-    argument-last : argument_of (count_of ts) (read (ts ▸ t)) ≡ ArgumentRead.Argument (type_of c t) (item_after start ts)
+    argument-last : argument_of (count_of ts) (read (ts ▸ t)) ≡ argument_found (type_of c t) (item_after start ts)
     unfolding argument_in
     argument-last = rw (eq-eqb (count_of ts) (count_of ts) refl)
 
@@ -149,7 +147,7 @@ refused-rows : (y : Reading Signature) (f : Fault) → plan_answer y ≡ refused
 unfolding entries_of entries_up_to
 refused-rows y f plan = rw plan
 
-rows-of : (s : List ℕ) (c : Convention) (g : Result) (v : Bool) (n : ℕ) (x : Reading Trees) →
+rows-of : (s : List ℕ) (c : Convention) (g : ResultTree) (v : Bool) (n : ℕ) (x : Reading Trees) →
     rows_with c v (result_type c g) (arguments_place g v) (length s) x ≡ entries_of (then_arguments s c g v n x)
 unfolding plan_answer
 rows-of s c g v n (no f) = refused-rows (no (later n f)) (later n f) refl
@@ -160,12 +158,12 @@ rows-of s c g v n (got ts next m) = go (ltb next (length s))
     go true = refused-rows (no (fault Refusal.TrailingBytes next (n + m))) (fault Refusal.TrailingBytes next (n + m)) refl
     go false = accepted-rows c g v next (n + m) ts
 
-pub rows-entries : (s : List ℕ) (x : HeadRead) → x ≡ head_answer (head_of s) → (c : Convention) (t : ResultType) (v : Bool) (at b n : ℕ) → x ≡ HeadRead.Head c t v at b n →
+pub rows-entries : (s : List ℕ) (x : Result Head Fault) → x ≡ head_answer (head_of s) → (c : Convention) (t : Option ValueType) (v : Bool) (at b n : ℕ) → x ≡ head_found c t v at b n →
     rows_with c v t at (length s) (arguments_in c s at b) ≡ entries_of (signature_of s)
 rows-entries s x found c t v at b n q =
     let g = begun s x found c t v at b n q in
     let y : Reading Trees = arguments_in c s at b in
-    ap (λ (u : ResultType). rows_with c v u at (length s) y) g.same
+    ap (λ (u : Option ValueType). rows_with c v u at (length s) y) g.same
     ∙ ap (λ (k : ℕ). rows_with c v (result_type c g.result) k (length s) y) g.starts
     ∙ rows-of s c g.result v n y
     ∙ ap entries_of (sym g.whole)

@@ -1,4 +1,6 @@
 -- The loop: the arguments that are read so far, whose entries are kept, and what each way out of it gives. Assumes nothing.
+use Rattle.sig_items.specs.declared.Item.{Item}
+use Rattle.std.proofs.Common.{Ok, Result, Option}
 use mathlib.Core.Path.{◌≡◌, refl, sym, ap, ◌∙◌}
 use mathlib.Core.Bool.{Bool}
 use mathlib.Core.List.{List}
@@ -15,14 +17,11 @@ use Rattle.sig_types.specs.Sizes.{size_of}
 use Rattle.sig_types.specs.Trees.{Trees, none, ◌▸◌, type_of, count_of}
 use Rattle.sig_items.specs.declared.Refusal.{Refusal}
 use Rattle.sig_items.specs.declared.Fault.{Fault}
-use Rattle.sig_items.specs.declared.ItemRead.{ItemRead}
 use Rattle.sig_items.specs.Reading.{fault, no, later}
 use Rattle.sig_items.specs.Read.{item_at}
-use Rattle.sig_items.specs.Answer.{item_answer}
+use Rattle.sig_items.specs.Answer.{item_answer, item_found}
 use Rattle.sig_items.proofs.Loop.{item-answered}
 use Rattle.sig_signatures.specs.Limits.{max_arguments}
-use Rattle.sig_signatures.specs.declared.Outcome.{Outcome}
-use Rattle.sig_signatures.specs.declared.ResultType.{ResultType}
 use Rattle.sig_signatures.specs.Read.{arguments_in, signature_of}
 use Rattle.sig_signatures.proofs.Loop.{turn_more, turn_last}
 use Rattle.sig_signatures.specs.Types.{values_of, types_of}
@@ -45,7 +44,7 @@ use Rattle.plan_words.specs.declared.Planned.{Planned}
 use Rattle.plan_words.specs.Planned.{planned_of}
 use Rattle.plan_words.specs.Helpers.{item_after, rows_of, rows_by, planned_by, plan_called, rows_called}
 
-length-rows : (c : Convention) (mark : Bool) (r : ResultType) (at : ℕ) (ts : Trees) → length (rows_of c mark r at ts) ≡ 13 * count_of ts
+length-rows : (c : Convention) (mark : Bool) (r : Option ValueType) (at : ℕ) (ts : Trees) → length (rows_of c mark r at ts) ≡ 13 * count_of ts
 unfolding rows_of count_of entry_words
 length-rows c mark r at none = refl
 length-rows c mark r at (ts ▸ t) = simp length-append (omega (arith, length-rows c mark r at ts))
@@ -54,19 +53,19 @@ pub same-words : {i j n m v w : ℕ} {s u : Span} → i ≡ j → n ≡ m → v 
 same-words p q x y = cc
 
 -- reading on from here gives all arguments; the entries of those so far, by the mark of an ellipsis, are put over what was there, l
-pub record Keeping (c : Convention) (mark : Bool) (s : List ℕ) (at e : ℕ) (r : ResultType) (l : List ℕ) (k : Cursor) (kept : List ℕ) (v u count next n : ℕ) : Type 0 where
+pub record Keeping (c : Convention) (mark : Bool) (s : List ℕ) (at e : ℕ) (r : Option ValueType) (l : List ℕ) (k : Cursor) (kept : List ℕ) (v u count next n : ℕ) : Type 0 where
   pub ts : Trees
   pub sizes : SoFar c s at e (rules_of c) (start_in c r) ts k v u count next n
   pub entries : kept ≡ overlay l (rows_of c mark r at ts)
 
-module _ (c : Convention) (mark : Bool) (s : List ℕ) (at e : ℕ) (r : ResultType) (l : List ℕ) where
+module _ (c : Convention) (mark : Bool) (s : List ℕ) (at e : ℕ) (r : Option ValueType) (l : List ℕ) where
   pub keeping_start : (k : Cursor) → k ≡ start_in c r → at ≤ e → Keeping c mark s at e r l k l 0 0 0 at 1
   unfolding rows_of
   keeping_start k p h = rw p (record { ts = none; sizes = none_so_far c s at e (rules_of c) (hidden_in c r) (rules-lawful c) h; entries = overlay-nothing l })
 
   module _ (k : Cursor) (kept : List ℕ) (v u count next n : ℕ) (m : Keeping c mark s at e r l k kept v u count next n) where
-    pub keeping-more : next < e → (count ≡ max_arguments → ⊥) → (x : ItemRead) → x ≡ item_answer c (item_at c 8 s e next) → (t : ValueType) (after j : ℕ) →
-        x ≡ ItemRead.Item t after j →
+    pub keeping-more : next < e → (count ≡ max_arguments → ⊥) → (x : Result Item Fault) → x ≡ item_answer c (item_at c 8 s e next) → (t : ValueType) (after j : ℕ) →
+        x ≡ item_found t after j →
         Keeping c mark s at e r l (next_of (with_ellipsis mark (rules_of c)) k t (size_of c t)) (splice kept (13 * count) (entry_words next (size_of c t) v (span_of (with_ellipsis mark (rules_of c)) k t (size_of c t)))) (v + size_of c t) (unclear_after u (unclear_for (with_ellipsis mark (rules_of c)) k t) count) (count + 1) after (n + j)
     unfolding types_of rows_of
     keeping-more h some x found t after j q =
@@ -100,7 +99,7 @@ module _ (c : Convention) (mark : Bool) (s : List ℕ) (at e : ℕ) (r : ResultT
 
 -- ---- the answers
 
-module _ (c : Convention) (mark : Bool) (s : List ℕ) (at e : ℕ) (r : ResultType) (earlier : ℕ) where
+module _ (c : Convention) (mark : Bool) (s : List ℕ) (at e : ℕ) (r : Option ValueType) (earlier : ℕ) where
   pub plan-no : (f : Fault) → arguments_in c s at e ≡ no f →
       planned_of (refused_plan (later earlier f)) ≡ plan_called c mark r earlier (length s) (arguments_in c s at e) (signature_of s)
   unfolding planned_by
@@ -122,7 +121,7 @@ module _ (c : Convention) (mark : Bool) (s : List ℕ) (at e : ℕ) (r : ResultT
 
     pub plan-end : length s ≤ next → u ≡ 0 →
         ◌≡◌ {A = Planned}
-        (record { outcome = Outcome.Accepted (earlier + n); convention = c; ellipsis = mark; result = result_words (result_places_in c r); count = count; area = area_of c k; values = v; copies = k.copies })
+        (record { outcome = Ok (earlier + n); convention = c; ellipsis = mark; result = result_words (result_places_in c r); count = count; area = area_of c k; values = v; copies = k.copies })
         (plan_called c mark r earlier (length s) (arguments_in c s at e) (signature_of s))
     unfolding plan_in planned_by
     plan-end h z =

@@ -22,14 +22,14 @@ ghost use Rattle.plan_words.specs.Planned.{planned_of};
 use base_conventions::Convention;
 use plan_entries::{ENTRY, ResultWords};
 use plan_places::CallRules;
-use sig_items::{Fault, ItemRead, Refusal};
-use sig_signatures::{FEW_ARGUMENTS, FEW_BYTES, HeadRead, MAX_ARGUMENTS, Outcome, ResultType};
+use sig_items::{Fault, Item, Refusal};
+use sig_signatures::{FEW_ARGUMENTS, FEW_BYTES, Head, MAX_ARGUMENTS};
 use sig_types::{FloatFormat, ValueType};
 
 // A plan without the places of its arguments.
 #[derive(Clone, Copy)]
 pub struct Planned {
-    pub outcome: Outcome,
+    pub outcome: Result<usize, Fault>,
     pub convention: Convention,
     pub ellipsis: bool,
     pub result: ResultWords,
@@ -55,10 +55,7 @@ fn no_result() -> ResultWords
 fn integer_words(word: usize, size: usize) -> u64
     ensures { result ≡ pick (ltb word size) 2 1 }
 {
-    if word < size {
-        return 2;
-    }
-    1
+    if word < size { 2 } else { 1 }
 }
 
 // The words of a result of a type, from the registers that its convention begins with. Nothing is placed for it: the step is then called for arguments
@@ -98,16 +95,9 @@ fn value_words(c: Convention, t: ValueType) -> ResultWords
             }
         }
         ValueType::Float(f) => match f {
-            FloatFormat::Single => float,
-            FloatFormat::Double => float,
+            FloatFormat::Single | FloatFormat::Double => float,
             FloatFormat::LongDouble => match both_abi::call_rules_of(c) {
-                CallRules::Power(_) => ResultWords {
-                    kind: 1,
-                    gpr: 0,
-                    gprs: 0,
-                    fpr: floating,
-                    fprs: 2,
-                },
+                CallRules::Power(_) => ResultWords { fprs: 2, ..float },
                 CallRules::Z => address,
             },
         },
@@ -115,12 +105,12 @@ fn value_words(c: Convention, t: ValueType) -> ResultWords
     }
 }
 
-fn result_words(c: Convention, res: ResultType) -> ResultWords
+fn result_words(c: Convention, res: Option<ValueType>) -> ResultWords
     ensures { result ≡ result_words (result_places_in c res) }
 {
     match res {
-        ResultType::Nothing => no_result(),
-        ResultType::Value(t) => value_words(c, t),
+        None => no_result(),
+        Some(t) => value_words(c, t),
     }
 }
 
@@ -128,7 +118,7 @@ fn no_plan(fault: Fault) -> Planned
     ensures { result ≡ planned_of (refused_plan fault) }
 {
     Planned {
-        outcome: Outcome::Refused(fault),
+        outcome: Err(fault),
         convention: Convention::Ppc64,
         ellipsis: false,
         result: no_result(),
@@ -145,7 +135,7 @@ fn plan_arguments(
     sig: &[u8],
     convention: Convention,
     ellipsis: bool,
-    returned: ResultType,
+    returned: Option<ValueType>,
     at: usize,
     end: usize,
     earlier: usize,
@@ -159,11 +149,11 @@ fn plan_arguments(
     let rules = plan_places::with_ellipsis(both_abi::call_rules_of(convention), ellipsis);
     let hidden = plan_planning::hidden_in(convention, returned);
     let mut c = plan_placing::start(convention, hidden);
-    let mut values: usize = 0;
-    let mut unclear: usize = 0;
-    let mut count: usize = 0;
+    let mut values = 0;
+    let mut unclear = 0;
+    let mut count = 0;
     let mut next = at;
-    let mut items: usize = 1;
+    let mut items = 1;
     while next < end {
         if count == MAX_ARGUMENTS {
             return no_plan(Fault {
@@ -173,23 +163,24 @@ fn plan_arguments(
             });
         }
         match sig_nested_items::read_item(sig, convention, next, end, sig_types::MAX_DEPTH) {
-            ItemRead::Item {
-                ty,
-                next: after,
-                items: more,
-            } => {
+            Ok(
+                Item {
+                    ty,
+                    next: after,
+                    items: more,
+                },
+            ) => {
                 let size = sig_types::size_of(convention, ty);
                 unclear = plan_placing::unclear_after(unclear, rules, c, ty, count);
                 let p = plan_placing::step(rules, c, ty, size);
-                let s = p.span;
-                plan_entries::keep_entry(kept, count, next, size, values, s);
+                plan_entries::keep_entry(kept, count, next, size, values, p.span);
                 c = p.next;
-                values = values + size;
-                count = count + 1;
+                values += size;
+                count += 1;
                 next = after;
-                items = items + more;
+                items += more;
             }
-            ItemRead::Refused(fault) => {
+            Err(fault) => {
                 return no_plan(sig_items::later_by(earlier + items, fault));
             }
         }
@@ -209,7 +200,7 @@ fn plan_arguments(
     let result = result_words(convention, returned);
     let area = plan_placing::area_of(convention, c);
     Planned {
-        outcome: Outcome::Accepted(counted),
+        outcome: Ok(counted),
         convention,
         ellipsis,
         result,
@@ -225,7 +216,7 @@ fn plan_part(
     sig: &[u8],
     convention: Convention,
     ellipsis: bool,
-    returned: ResultType,
+    returned: Option<ValueType>,
     at: usize,
     end: usize,
     earlier: usize,
@@ -253,14 +244,16 @@ pub fn plan_words(sig: &[u8], places: &mut [u64]) -> Planned
     ensures places_after { places.new ≡ overlay_whole places.old (entries_of (call_of sig.now)) }
 {
     match sig_head::read_head(sig) {
-        HeadRead::Refused(fault) => no_plan(fault),
-        HeadRead::Head {
-            convention,
-            result,
-            ellipsis,
-            at,
-            end,
-            earlier,
-        } => plan_part(sig, convention, ellipsis, result, at, end, earlier, places),
+        Err(fault) => no_plan(fault),
+        Ok(h) => plan_part(
+            sig,
+            h.convention,
+            h.ellipsis,
+            h.result,
+            h.at,
+            h.end,
+            h.earlier,
+            places,
+        ),
     }
 }

@@ -16,19 +16,11 @@ use sig_types::{Equivalent, FloatFormat, ValueType};
 fn by_size(size: usize) -> ZClass
     ensures { result ≡ by_size size }
 {
-    if size == 1 {
-        return ZClass::Simple;
+    if matches!(size, 1 | 2 | 4 | 8) {
+        ZClass::Simple
+    } else {
+        ZClass::Reference
     }
-    if size == 2 {
-        return ZClass::Simple;
-    }
-    if size == 4 {
-        return ZClass::Simple;
-    }
-    if size == 8 {
-        return ZClass::Simple;
-    }
-    ZClass::Reference
 }
 
 fn by_equivalent(e: Equivalent, size: usize) -> ZClass
@@ -36,25 +28,19 @@ fn by_equivalent(e: Equivalent, size: usize) -> ZClass
 {
     match e {
         Equivalent::Nothing => by_size(size),
-        Equivalent::Single => ZClass::Float,
-        Equivalent::Double => ZClass::Float,
+        Equivalent::Single | Equivalent::Double => ZClass::Float,
     }
 }
 
+#[tactic(auto, unfolding(plan_places::specs::ZSeries::z_class))]
 fn class_of(t: ValueType, size: usize) -> ZClass
     ensures { result ≡ z_class t size }
 {
     match t {
         ValueType::Integer(_) => ZClass::Simple,
-        ValueType::Float(f) => match f {
-            FloatFormat::Single => ZClass::Float,
-            FloatFormat::Double => ZClass::Float,
-            FloatFormat::LongDouble => ZClass::Reference,
-        },
-        ValueType::Struct(s) => {
-            let equivalent = s.equivalent;
-            by_equivalent(equivalent, size)
-        }
+        ValueType::Float(FloatFormat::Single | FloatFormat::Double) => ZClass::Float,
+        ValueType::Float(FloatFormat::LongDouble) => ZClass::Reference,
+        ValueType::Struct(s) => by_equivalent(s.equivalent, size),
     }
 }
 
@@ -79,36 +65,33 @@ fn taken_of(c: Cursor, class: ZClass, size: usize) -> ZTaken
     requires { Roomy c × (size ≤ max_size) }
     ensures { (z_span_of c class size ≡ z_span c result.general result.floating (bytes result.copy result.length) result.indirect) × (z_next_of c class size ≡ z_next c result.general result.floating (result.copy + result.length)) × (result.general + result.floating ≤ 1) × (result.copy + result.length ≤ 60300) }
 {
-    let general = c.general;
-    let floating = c.floating;
-    let copies = c.copies;
     match class {
         ZClass::Float => {
-            let f = one_left(floating, Z::PAST_FLOATING);
+            let f = one_left(c.floating, Z::PAST_FLOATING);
             ZTaken {
                 general: 0,
                 floating: f,
-                copy: copies,
+                copy: c.copies,
                 length: 0,
                 indirect: false,
             }
         }
         ZClass::Simple => {
-            let g = one_left(general, Z::PAST_GENERAL);
+            let g = one_left(c.general, Z::PAST_GENERAL);
             ZTaken {
                 general: g,
                 floating: 0,
-                copy: copies,
+                copy: c.copies,
                 length: 0,
                 indirect: false,
             }
         }
         ZClass::Reference => {
-            let pointer = one_left(general, Z::PAST_GENERAL);
+            let pointer = one_left(c.general, Z::PAST_GENERAL);
             ZTaken {
                 general: pointer,
                 floating: 0,
-                copy: (copies + 7) / 8 * 8,
+                copy: (c.copies + 7) / 8 * 8,
                 length: size,
                 indirect: true,
             }
@@ -142,16 +125,11 @@ fn place(c: Cursor, a: ZTaken) -> Placed
     requires { Roomy c × (a.general + a.floating ≤ 1) × (a.copy + a.length ≤ 60300) }
     ensures { result ≡ placed_as (z_span c a.general a.floating (bytes a.copy a.length) a.indirect) (z_next c a.general a.floating (a.copy + a.length)) }
 {
-    let general = c.general;
-    let floating = c.floating;
-    let stack = c.stack;
-    let g = a.general;
-    let f = a.floating;
-    let memory = plan_places::byte_range(stack, stored(g, f));
+    let memory = plan_places::byte_range(c.stack, stored(a.general, a.floating));
     Placed {
         span: Span {
-            general: plan_places::register_range(general, g),
-            floating: plan_places::register_range(floating, f),
+            general: plan_places::register_range(c.general, a.general),
+            floating: plan_places::register_range(c.floating, a.floating),
             home: memory,
             memory,
             copy: plan_places::byte_range(a.copy, a.length),

@@ -1,5 +1,6 @@
 -- PowerPC: registers laid over one structure are those that the first planner's cursor comes to. Proved once over the word width, the
 -- edition and the ellipsis. Assumes nothing.
+use Rattle.std.proofs.Common.{Some}
 use mathlib.Core.Path.{◌≡◌, refl, sym, ap, ap₂, ◌∙◌}
 use mathlib.Core.Bool.{Bool, true, false}
 use mathlib.Core.Logic.{◌⊎◌, inl, inr}
@@ -16,7 +17,6 @@ use Rattle.sig_types.specs.declared.FloatFormat.{FloatFormat}
 use Rattle.sig_types.specs.declared.ValueType.{ValueType}
 use Rattle.sig_types.specs.Sizes.{size_of}
 use Rattle.sig_types.proofs.Laws.{integer-most}
-use Rattle.sig_signatures.specs.declared.ResultType.{ResultType}
 use Rattle.plan_places.specs.declared.Edition.{Edition}
 use Rattle.plan_places.specs.declared.PowerRules.{PowerRules}
 use Rattle.plan_places.specs.declared.CallRules.{CallRules}
@@ -243,7 +243,7 @@ unfolding words
 few_words w n h s = div-le_of_le-mul w (omega arith)
 
 -- "FPR1 (or FPR1 and FPR2 for long double values)", "GPR3", and for a struct the address in GPR3
-pub result-agrees : (c : Convention) (w : ℕ) (e : Edition) (t : ValueType) → 0 < w → power_returned c w (ResultType.Value t) ≡ returned_of (result_of (power w e) t (size_of c t))
+pub result-agrees : (c : Convention) (w : ℕ) (e : Edition) (t : ValueType) → 0 < w → power_returned c w (Some t) ≡ returned_of (result_of (power w e) t (size_of c t))
 unfolding result_of returned_of hidden_for returning fresh_cursor span_of power_share share_of fprs words
 result-agrees c w e (ValueType.Integer k) h =
     let n : ℕ = words w (size_of c (ValueType.Integer k)) in

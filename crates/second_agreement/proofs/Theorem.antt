@@ -1,4 +1,5 @@
 -- Both planners agree on every byte string (specs/Agreement.antt says what that is). Assumes nothing.
+use Rattle.std.proofs.Common.{Some, None, Option}
 use mathlib.Core.Path.{◌≡◌, refl, sym, ap, ap₂, subst, ◌∙◌}
 use mathlib.Core.Bool.{Bool, true, false}
 use mathlib.Core.List.{List, [], ◌∷◌, map}
@@ -13,7 +14,6 @@ use Rattle.sig_types.specs.declared.ValueType.{ValueType}
 use Rattle.sig_types.specs.Sizes.{size_of}
 use Rattle.sig_items.specs.declared.Fault.{Fault}
 use Rattle.sig_items.specs.Reading.{Reading, got, no}
-use Rattle.sig_signatures.specs.declared.ResultType.{ResultType}
 use Rattle.sig_signatures.specs.Signature.{Signature}
 use Rattle.sig_signatures.specs.Limits.{max_arguments}
 use Rattle.sig_signatures.specs.Read.{signature_of}
@@ -64,12 +64,12 @@ table-agrees ps l e i =
 -- ---- PowerPC, once over the word width, the edition and the ellipsis
 
 module _ (w : ℕ) (e : Edition) (positive : 0 < w) (c : Convention) (same : rules_of c ≡ power w e) (word : word_bytes c ≡ w) (least : least_words c ≡ 8) where
-  hidden-agrees : (r : ResultType) → hidden_in c r ≡ power_hidden r
+  hidden-agrees : (r : Option ValueType) → hidden_in c r ≡ power_hidden r
   unfolding hidden_for
-  hidden-agrees ResultType.Nothing = refl
-  hidden-agrees (ResultType.Value (ValueType.Integer k)) = refl
-  hidden-agrees (ResultType.Value (ValueType.Float f)) = rw same
-  hidden-agrees (ResultType.Value (ValueType.Struct s)) = refl
+  hidden-agrees None = refl
+  hidden-agrees (Some (ValueType.Integer k)) = refl
+  hidden-agrees (Some (ValueType.Float f)) = rw same
+  hidden-agrees (Some (ValueType.Struct s)) = refl
 
   abbrev rules_for : Bool → PowerRules
   rules_for v = record { word = w; edition = e; ellipsis = v }
@@ -78,23 +78,23 @@ module _ (w : ℕ) (e : Edition) (positive : 0 < w) (c : Convention) (same : rul
   begins true = hidden-written (rules_for false) positive
   begins false = start-written (rules_for false)
 
-  start-agrees : (r : ResultType) → start_in c r ≡ at w (hidden_words (power_hidden r)) 0
+  start-agrees : (r : Option ValueType) → start_in c r ≡ at w (hidden_words (power_hidden r)) 0
   start-agrees r = ap₂ start_of same (hidden-agrees r) ∙ begins (power_hidden r)
 
-  result-agrees : (r : ResultType) → power_returned c w r ≡ returned_of (result_places_in c r)
+  result-agrees : (r : Option ValueType) → power_returned c w r ≡ returned_of (result_places_in c r)
   unfolding returned_of
-  result-agrees ResultType.Nothing = refl
-  result-agrees (ResultType.Value t) = rw same (powerpc.result-agrees c w e t positive)
+  result-agrees None = refl
+  result-agrees (Some t) = rw same (powerpc.result-agrees c w e t positive)
 
   marked : (v : Bool) → with_ellipsis v (rules_of c) ≡ CallRules.Power (rules_for v)
   unfolding with_ellipsis
   marked v = ap (with_ellipsis v) same
 
   -- the cursor past the last argument, by the convention's own rules
-  end-agrees : (r : ResultType) (ts : List ValueType) → last_cursor_in c r ts ≡ last_of c (power w e) (at w (hidden_words (power_hidden r)) 0) ts
+  end-agrees : (r : Option ValueType) (ts : List ValueType) → last_cursor_in c r ts ≡ last_of c (power w e) (at w (hidden_words (power_hidden r)) 0) ts
   end-agrees r ts = ap₂ (λ (u : CallRules) (k : Cursor). last_of c u k ts) same (start-agrees r)
 
-  area-agrees : (r : ResultType) (ts : List ValueType) → AllWhole (paired e) 0 ts
+  area-agrees : (r : Option ValueType) (ts : List ValueType) → AllWhole (paired e) 0 ts
       → area_bytes w (words_to c w (hidden_words (power_hidden r)) ts) ≡ area_of c (last_cursor_in c r ts)
   unfolding area_bytes
   area-agrees r ts h =
@@ -107,7 +107,7 @@ module _ (w : ℕ) (e : Edition) (positive : 0 < w) (c : Convention) (same : rul
       ∙ sym written
       ∙ sym (ap (area_of c) (end-agrees r ts ∙ powerpc.last-agrees (rules_for false) positive c j 0 ts h))
 
-  pub power-agrees : (n : ℕ) (v : Bool) (r : ResultType) (ts : List ValueType) → AllWhole (paired e) 0 ts
+  pub power-agrees : (n : ℕ) (v : Bool) (r : Option ValueType) (ts : List ValueType) → AllWhole (paired e) 0 ts
       → PlansAgree (plan_in n c v r ts) (power_plan v (paired e) w n c r ts)
   unfolding plan_in power_plan power_parameters
   power-agrees n v r ts h =
@@ -128,21 +128,21 @@ module _ (w : ℕ) (e : Edition) (positive : 0 < w) (c : Convention) (same : rul
       }
 
   -- 29 of the same argument
-  pub unclear-agrees : (r : ResultType) (ts : List ValueType) → first_unclear c (rules_of c) (start_in c r) 0 ts ≡ first_straddling (paired e) 0 0 ts
+  pub unclear-agrees : (r : Option ValueType) (ts : List ValueType) → first_unclear c (rules_of c) (start_in c r) 0 ts ≡ first_straddling (paired e) 0 0 ts
   unclear-agrees r ts =
       ap₂ (λ (u : CallRules) (k : Cursor). first_unclear c u k 0 ts) same (start-agrees r)
       ∙ powerpc.unclear-agrees (rules_for false) positive c (hidden_words (power_hidden r)) 0 0 ts
 
 -- ---- Z
 
-z-hidden : (r : ResultType) → hidden_in Convention.Z r ≡ z_hidden r
+z-hidden : (r : Option ValueType) → hidden_in Convention.Z r ≡ z_hidden r
 unfolding hidden_for
-z-hidden ResultType.Nothing = refl
-z-hidden (ResultType.Value (ValueType.Integer k)) = refl
-z-hidden (ResultType.Value (ValueType.Float FloatFormat.Single)) = refl
-z-hidden (ResultType.Value (ValueType.Float FloatFormat.Double)) = refl
-z-hidden (ResultType.Value (ValueType.Float FloatFormat.LongDouble)) = refl
-z-hidden (ResultType.Value (ValueType.Struct s)) = refl
+z-hidden None = refl
+z-hidden (Some (ValueType.Integer k)) = refl
+z-hidden (Some (ValueType.Float FloatFormat.Single)) = refl
+z-hidden (Some (ValueType.Float FloatFormat.Double)) = refl
+z-hidden (Some (ValueType.Float FloatFormat.LongDouble)) = refl
+z-hidden (Some (ValueType.Struct s)) = refl
 
 z-begins : (hidden : Bool) → cursor_of (initial hidden) ≡ start_of CallRules.Z hidden
 unfolding initial
@@ -153,15 +153,15 @@ z-even : (hidden : Bool) → Even (initial hidden)
 unfolding initial
 z-even hidden = refl
 
-z-start : (r : ResultType) → cursor_of (initial (z_hidden r)) ≡ start_in Convention.Z r
+z-start : (r : Option ValueType) → cursor_of (initial (z_hidden r)) ≡ start_in Convention.Z r
 z-start r = z-begins (z_hidden r) ∙ ap (start_of CallRules.Z) (sym (z-hidden r))
 
-z-result : (r : ResultType) → z_returned r ≡ returned_of (result_places_in Convention.Z r)
+z-result : (r : Option ValueType) → z_returned r ≡ returned_of (result_places_in Convention.Z r)
 unfolding returned_of
-z-result ResultType.Nothing = refl
-z-result (ResultType.Value t) = zseries.result-agrees Convention.Z t
+z-result None = refl
+z-result (Some t) = zseries.result-agrees Convention.Z t
 
-z-agrees : (n : ℕ) (v : Bool) (r : ResultType) (ts : List ValueType) → PlansAgree (plan_in n Convention.Z v r ts) (z_plan v n Convention.Z r ts)
+z-agrees : (n : ℕ) (v : Bool) (r : Option ValueType) (ts : List ValueType) → PlansAgree (plan_in n Convention.Z v r ts) (z_plan v n Convention.Z r ts)
 unfolding plan_in z_plan with_ellipsis
 z-agrees n v r ts =
     let s = initial (z_hidden r) in
@@ -187,13 +187,13 @@ z-clear k i ts = none-unclear Convention.Z CallRules.Z refl k i ts
 -- ---- every signature
 
 -- the same first argument is unclear, or none
-unclear-agree : (c : Convention) (r : ResultType) (ts : List ValueType) → first_unclear c (rules_of c) (start_in c r) 0 ts ≡ straddling_in c ts
+unclear-agree : (c : Convention) (r : Option ValueType) (ts : List ValueType) → first_unclear c (rules_of c) (start_in c r) 0 ts ≡ straddling_in c ts
 unclear-agree Convention.Ppc64 r ts = unclear-agrees 8 Edition.Earlier (omega arith) Convention.Ppc64 refl refl refl r ts
 unclear-agree Convention.Z r ts = z-clear (start_in Convention.Z r) 0 ts
 unclear-agree Convention.Aix r ts = unclear-agrees 4 Edition.Earlier (omega arith) Convention.Aix refl refl refl r ts
 unclear-agree Convention.Ppc64b r ts = unclear-agrees 8 Edition.Later (omega arith) Convention.Ppc64b refl refl refl r ts
 
-accepted-agree : (n : ℕ) (c : Convention) (v : Bool) (r : ResultType) (ts : List ValueType) → straddling_in c ts ≡ 0 → PlansAgree (plan_in n c v r ts) (second_in n c v r ts)
+accepted-agree : (n : ℕ) (c : Convention) (v : Bool) (r : Option ValueType) (ts : List ValueType) → straddling_in c ts ≡ 0 → PlansAgree (plan_in n c v r ts) (second_in n c v r ts)
 accepted-agree n Convention.Ppc64 v r ts z = power-agrees 8 Edition.Earlier (omega arith) Convention.Ppc64 refl refl refl n v r ts (none-straddling false 0 0 ts z)
 accepted-agree n Convention.Z v r ts z = z-agrees n v r ts
 accepted-agree n Convention.Aix v r ts z = power-agrees 4 Edition.Earlier (omega arith) Convention.Aix refl refl refl n v r ts (none-straddling false 0 0 ts z)
@@ -223,7 +223,7 @@ readings-agree : (x : Reading Signature) → PlansAgree (plan_answer (called x))
 unfolding called second_answer plan_answer unless_straddling
 readings-agree (got g next n) =
     let c : Convention = g.convention in
-    let r : ResultType = result_type c g.result in
+    let r : (Option ValueType) = result_type c g.result in
     let ts : List ValueType = types_of c g.arguments in
     go (unclear_in g) (straddling_in c ts) (unclear-agree c r ts) (accepted-agree n c g.ellipsis r ts)
   where

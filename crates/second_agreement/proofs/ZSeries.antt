@@ -1,4 +1,5 @@
 -- Z: each slot of 001's SCAN is where the first planner's cursor puts it. Assumes nothing.
+use Rattle.std.proofs.Common.{Some}
 use mathlib.Core.Path.{◌≡◌, refl, sym, ap, ap₂, ◌∙◌}
 use mathlib.Core.Bool.{Bool, true, false}
 use mathlib.Core.List.{List, [], ◌∷◌, map}
@@ -14,7 +15,6 @@ use Rattle.sig_types.specs.declared.FloatFormat.{FloatFormat}
 use Rattle.sig_types.specs.declared.Shape.{Shape}
 use Rattle.sig_types.specs.declared.ValueType.{ValueType}
 use Rattle.sig_types.specs.Sizes.{size_of}
-use Rattle.sig_signatures.specs.declared.ResultType.{ResultType}
 use Rattle.plan_places.specs.declared.Cursor.{Cursor}
 use Rattle.plan_places.specs.declared.CallRules.{CallRules}
 use Rattle.plan_places.specs.declared.ZClass.{ZClass}
@@ -145,7 +145,7 @@ scan-agrees c s (t ∷ ts) h =
 
 -- ---- the result
 
-pub result-agrees : (c : Convention) (t : ValueType) → z_returned (ResultType.Value t) ≡ returned_of (result_of CallRules.Z t (size_of c t))
+pub result-agrees : (c : Convention) (t : ValueType) → z_returned (Some t) ≡ returned_of (result_of CallRules.Z t (size_of c t))
 unfolding result_of returned_of hidden_for returning fresh_cursor span_of z_class z_span_of
 result-agrees c (ValueType.Integer k) = refl
 result-agrees c (ValueType.Float FloatFormat.Single) = refl

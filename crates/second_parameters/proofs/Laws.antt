@@ -1,11 +1,11 @@
 -- Runs of none and of some, and the size of a result. Assumes nothing.
+use Rattle.std.proofs.Common.{Some, None, Option}
 use mathlib.Core.Path.{◌≡◌, refl, subst}
 use Prim.Native.Nat.{ℕ, zero, suc, ◌≤◌}
 use native.Mathlib.Omega.{arith}
 use Rattle.base_conventions.specs.declared.Convention.{Convention}
 use Rattle.sig_types.specs.declared.ValueType.{ValueType}
 use Rattle.sig_types.specs.Sizes.{size_of}
-use Rattle.sig_signatures.specs.declared.ResultType.{ResultType}
 use Rattle.sig_signatures.specs.Helpers.{SmallResult}
 use Rattle.second_parameters.specs.Values.{numbers, run_of, no_run}
 
@@ -23,6 +23,6 @@ run-some a (suc n) h = refl
 
 -- ---- a result's type
 
-pub small-value : (c : Convention) (r : ResultType) (t : ValueType) → r ≡ ResultType.Value t → SmallResult c r → size_of c t ≤ 256
-small-value c ResultType.Nothing t e h = let z : ◌≡◌ {A = ℕ} 0 1 = cc in absurd (omega arith)
-small-value c (ResultType.Value u) t e h = let same : u ≡ t = cc in subst (λ (x : ValueType). size_of c x ≤ 256) same h
+pub small-value : (c : Convention) (r : Option ValueType) (t : ValueType) → r ≡ Some t → SmallResult c r → size_of c t ≤ 256
+small-value c None t e h = let z : ◌≡◌ {A = ℕ} 0 1 = cc in absurd (omega arith)
+small-value c (Some u) t e h = let same : u ≡ t = cc in subst (λ (x : ValueType). size_of c x ≤ 256) same h

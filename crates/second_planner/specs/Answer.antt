@@ -1,12 +1,10 @@
 -- The second plan of a whole signature: PowerPC's registers over one structure, Z's slots one by one. 02, No. 14: "a separate plain planner for
 -- codes 1, 3 and 4, and a slot-by-slot one for Z". Assumes nothing.
-use Rattle.std.specs.Prelude.{ℕ, zero, suc, Bool, true, false, List, length, replicate}
+use Rattle.std.specs.Prelude.{ℕ, zero, suc, Bool, true, false, List, length, replicate, Ok, Err, Option}
 use Rattle.base_conventions.specs.declared.Convention.{Convention}
 use Rattle.sig_types.specs.declared.ValueType.{ValueType}
 use Rattle.sig_items.specs.declared.Fault.{Fault}
 use Rattle.sig_items.specs.Reading.{Reading, got, no}
-use Rattle.sig_signatures.specs.declared.Outcome.{Outcome}
-use Rattle.sig_signatures.specs.declared.ResultType.{ResultType}
 use Rattle.sig_signatures.specs.Signature.{Signature}
 use Rattle.sig_signatures.specs.Limits.{max_arguments}
 use Rattle.sig_signatures.specs.Answer.{result_type}
@@ -22,12 +20,12 @@ use Rattle.second_planner.specs.declared.SecondPlan.{SecondPlan}
 -- ---- an accepted signature's
 
 -- PowerPC: registers over the structure of all parameters
-unfoldable pub power_parameters : Bool → Bool → ℕ → Convention → ResultType → List ValueType → List Parameter
+unfoldable pub power_parameters : Bool → Bool → ℕ → Convention → Option ValueType → List ValueType → List Parameter
 power_parameters ellipsis paired w c r ts = registers_over ellipsis paired w 0 ts (fields_from c w (hidden_words (power_hidden r)) ts)
 
-unfoldable pub power_plan : Bool → Bool → ℕ → ℕ → Convention → ResultType → List ValueType → SecondPlan
+unfoldable pub power_plan : Bool → Bool → ℕ → ℕ → Convention → Option ValueType → List ValueType → SecondPlan
 power_plan ellipsis paired w n c r ts = record {
-  outcome = Outcome.Accepted n;
+  outcome = Ok n;
   convention = c;
   ellipsis = ellipsis;
   result = power_returned c w r;
@@ -39,9 +37,9 @@ power_plan ellipsis paired w n c r ts = record {
 }
 
 -- Z: slot by slot; 02, No. 5: with an ellipsis "Z's places stay"
-unfoldable pub z_plan : Bool → ℕ → Convention → ResultType → List ValueType → SecondPlan
+unfoldable pub z_plan : Bool → ℕ → Convention → Option ValueType → List ValueType → SecondPlan
 z_plan ellipsis n c r ts = record {
-  outcome = Outcome.Accepted n;
+  outcome = Ok n;
   convention = c;
   ellipsis = ellipsis;
   result = z_returned r;
@@ -53,7 +51,7 @@ z_plan ellipsis n c r ts = record {
 }
 
 -- "for codes 1, 3 and 4, and a slot-by-slot one for Z": doublewords, 4-byte words, and the edition where a long double takes two FPRs
-abbrev pub second_in : ℕ → Convention → Bool → ResultType → List ValueType → SecondPlan
+abbrev pub second_in : ℕ → Convention → Bool → Option ValueType → List ValueType → SecondPlan
 second_in n Convention.Ppc64 ellipsis r ts = power_plan ellipsis false 8 n Convention.Ppc64 r ts
 second_in n Convention.Z ellipsis r ts = z_plan ellipsis n Convention.Z r ts
 second_in n Convention.Aix ellipsis r ts = power_plan ellipsis false 4 n Convention.Aix r ts
@@ -64,7 +62,7 @@ second_in n Convention.Ppc64b ellipsis r ts = power_plan ellipsis true 8 n Conve
 -- "Every refusal leaves all buffers and the state untouched; counts are 0"
 abbrev pub no_plan : Fault → SecondPlan
 no_plan f = record {
-  outcome = Outcome.Refused f;
+  outcome = Err f;
   convention = Convention.Ppc64;
   ellipsis = false;
   result = Returned.Nothing;

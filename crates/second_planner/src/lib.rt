@@ -1,8 +1,7 @@
 // A second planner, which knows nothing of the first: any signature's plan, by the structure of its parameters or slot by slot.
 #![tactic(auto)]
 
-ghost use Rattle.std.specs.Prelude.{◌≡◌, ◌≤◌, ◌<◌};
-ghost use Rattle.sig_signatures.specs.declared.Outcome.{Outcome};
+ghost use Rattle.std.specs.Prelude.{◌≡◌, ◌≤◌, ◌<◌, Ok};
 ghost use Rattle.sig_signatures.specs.Read.{signature_of};
 ghost use Rattle.sig_signatures.specs.Answer.{signature_answer};
 ghost use Rattle.sig_signatures.specs.Types.{types_in, values_of};
@@ -12,11 +11,11 @@ ghost use Rattle.second_planner.specs.Answer.{power_plan, z_plan, no_plan, secon
 use base_conventions::Convention;
 use second_parameters::{Parameter, Returned};
 use sig_items::Fault;
-use sig_signatures::{MAX_ARGUMENTS, Outcome, SignatureRead};
+use sig_signatures::{MAX_ARGUMENTS, SignatureRead};
 
 #[derive(Clone, Copy)]
 pub struct SecondPlan {
-    pub outcome: Outcome,
+    pub outcome: Result<usize, Fault>,
     pub convention: Convention,
     pub ellipsis: bool,
     pub result: Returned,
@@ -32,15 +31,9 @@ fn values_in(g: SignatureRead) -> usize
     requires { Plannable g }
     ensures { result ≡ values_of g.convention (types_in g) }
 {
-    let convention = g.convention;
-    let count = g.count;
-    let mut values: usize = 0;
-    let mut i: usize = 0;
-    while i < count {
-        let a = g.arguments[i];
-        let t = a.ty;
-        values = values + sig_types::size_of(convention, t);
-        i = i + 1;
+    let mut values = 0;
+    for a in &g.arguments[..g.count] {
+        values += sig_types::size_of(g.convention, a.ty);
     }
     values
 }
@@ -50,29 +43,19 @@ fn power_plan(paired: bool, word: usize, n: usize, g: SignatureRead) -> SecondPl
     requires { (0 < word) × (word ≤ 8) × Plannable g }
     ensures { result ≡ power_plan g.ellipsis paired word n g.convention g.result (types_in g) }
 {
-    let convention = g.convention;
-    let ellipsis = g.ellipsis;
-    let count = g.count;
-    let returned = g.result;
-    let result = second_structure::power_returned(convention, word, returned);
-    let values = values_in(g);
-    let s = second_structure::lay_out(
-        word,
-        second_structure::hidden_words(second_structure::power_hidden(returned)),
-        g,
-    );
-    let area = second_structure::area_bytes(word, s.words);
-    let laid = second_structure::lay_registers(ellipsis, paired, word, g, s);
+    let hidden = second_structure::power_hidden(g.result);
+    let s = second_structure::lay_out(word, second_structure::hidden_words(hidden), g);
+    let parameters = second_structure::lay_registers(g.ellipsis, paired, word, g, s);
     SecondPlan {
-        outcome: Outcome::Accepted(n),
-        convention,
-        ellipsis,
-        result,
-        count,
-        area,
-        values,
+        outcome: Ok(n),
+        convention: g.convention,
+        ellipsis: g.ellipsis,
+        result: second_structure::power_returned(g.convention, word, g.result),
+        count: g.count,
+        area: second_structure::area_bytes(word, s.words),
+        values: values_in(g),
         copies: 0,
-        parameters: laid,
+        parameters,
     }
 }
 
@@ -81,25 +64,18 @@ fn z_plan(n: usize, g: SignatureRead) -> SecondPlan
     requires { Plannable g }
     ensures { result ≡ z_plan g.ellipsis n g.convention g.result (types_in g) }
 {
-    let convention = g.convention;
-    let ellipsis = g.ellipsis;
-    let count = g.count;
-    let returned = g.result;
-    let result = second_slot_scan::z_returned(returned);
-    let values = values_in(g);
-    let s = second_slot_scan::scan_all(g, second_slot_scan::z_hidden(returned));
-    let scanned = s.parameters;
-    let end = s.end;
+    let s = second_slot_scan::scan_all(g, second_slot_scan::z_hidden(g.result));
+    let parameters = s.parameters;
     SecondPlan {
-        outcome: Outcome::Accepted(n),
-        convention,
-        ellipsis,
-        result,
-        count,
-        area: end.starg,
-        values,
-        copies: end.copies,
-        parameters: scanned,
+        outcome: Ok(n),
+        convention: g.convention,
+        ellipsis: g.ellipsis,
+        result: second_slot_scan::z_returned(g.result),
+        count: g.count,
+        area: s.end.starg,
+        values: values_in(g),
+        copies: s.end.copies,
+        parameters,
     }
 }
 
@@ -107,8 +83,7 @@ fn accepted_plan(n: usize, g: SignatureRead) -> SecondPlan
     requires { Plannable g }
     ensures { result ≡ second_in n g.convention g.ellipsis g.result (types_in g) }
 {
-    let convention = g.convention;
-    match convention {
+    match g.convention {
         Convention::Ppc64 => power_plan(false, 8, n, g),
         Convention::Z => z_plan(n, g),
         Convention::Aix => power_plan(false, 4, n, g),
@@ -119,9 +94,9 @@ fn accepted_plan(n: usize, g: SignatureRead) -> SecondPlan
 fn no_plan(fault: Fault) -> SecondPlan
     ensures { result ≡ no_plan fault }
 {
-    let none = second_parameters::no_parameters();
+    let parameters = second_parameters::no_parameters();
     SecondPlan {
-        outcome: Outcome::Refused(fault),
+        outcome: Err(fault),
         convention: Convention::Ppc64,
         ellipsis: false,
         result: Returned::Nothing,
@@ -129,7 +104,7 @@ fn no_plan(fault: Fault) -> SecondPlan
         area: 0,
         values: 0,
         copies: 0,
-        parameters: none,
+        parameters,
     }
 }
 
@@ -138,35 +113,33 @@ fn straddling_in(g: SignatureRead) -> usize
     requires { Plannable g }
     ensures { result ≡ straddling_in g.convention (types_in g) }
 {
-    let convention = g.convention;
-    match convention {
-        Convention::Ppc64 => second_structure::first_straddling(false, g),
+    match g.convention {
+        Convention::Ppc64 | Convention::Aix => second_structure::first_straddling(false, g),
         Convention::Z => 0,
-        Convention::Aix => second_structure::first_straddling(false, g),
         Convention::Ppc64b => second_structure::first_straddling(true, g),
     }
 }
 
 // The plan of n items that were read, by the signature's bytes and what was read of them.
 fn clear_plan(sig: &[u8], n: usize, g: SignatureRead) -> SecondPlan
-    requires { (g ≡ signature_answer (signature_of sig.now)) × (g.outcome ≡ Outcome.Accepted n) }
+    requires { (g ≡ signature_answer (signature_of sig.now)) × (g.outcome ≡ Ok n) }
     ensures { result ≡ second_answer (signature_of sig.now) }
 {
     let straddling = straddling_in(g);
     if straddling == 0 {
-        return accepted_plan(n, g);
+        accepted_plan(n, g)
+    } else {
+        no_plan(sig_reader::unclear_fault(sig, straddling - 1))
     }
-    no_plan(sig_reader::unclear_fault(sig, straddling - 1))
 }
 
 fn second(sig: &[u8], g: SignatureRead) -> SecondPlan
     requires { g ≡ signature_answer (signature_of sig.now) }
     ensures { result ≡ second_answer (signature_of sig.now) }
 {
-    let outcome = g.outcome;
-    match outcome {
-        Outcome::Refused(fault) => no_plan(fault),
-        Outcome::Accepted(n) => clear_plan(sig, n, g),
+    match g.outcome {
+        Err(fault) => no_plan(fault),
+        Ok(n) => clear_plan(sig, n, g),
     }
 }
 

@@ -1,13 +1,12 @@
 -- Z slot by slot, as source document 001 works, "Parameter passing": INITIALIZE, SCAN, DOUBLE_OR_FLOAT, SIMPLE_ARG and OTHER. Stack bytes
 -- count from "parameter word 1". Assumes nothing.
-use Rattle.std.specs.Prelude.{ℕ, ◌+◌, Bool, true, false, List, [], ◌∷◌, ltb, eqb}
+use Rattle.std.specs.Prelude.{ℕ, ◌+◌, Bool, true, false, List, [], ◌∷◌, ltb, eqb, Some, None, Option}
 use Rattle.base_words.specs.Basics.{pick, round_up}
 use Rattle.base_conventions.specs.declared.Convention.{Convention}
 use Rattle.sig_types.specs.declared.Equivalent.{Equivalent}
 use Rattle.sig_types.specs.declared.FloatFormat.{FloatFormat}
 use Rattle.sig_types.specs.declared.ValueType.{ValueType}
 use Rattle.sig_types.specs.Sizes.{size_of, equivalent_of}
-use Rattle.sig_signatures.specs.declared.ResultType.{ResultType}
 use Rattle.second_parameters.specs.declared.Run.{Run}
 use Rattle.second_parameters.specs.declared.Parameter.{Parameter}
 use Rattle.second_slot_scan.specs.declared.Scan.{Scan}
@@ -97,19 +96,19 @@ scanned_of c s ts = record { parameters = table_with no_parameter (slots_from c 
 -- ---- the result
 
 -- 01: "a hidden result address in r2, for struct or long double"
-abbrev pub z_hidden : ResultType → Bool
-z_hidden ResultType.Nothing = false
-z_hidden (ResultType.Value (ValueType.Integer k)) = false
-z_hidden (ResultType.Value (ValueType.Float FloatFormat.Single)) = false
-z_hidden (ResultType.Value (ValueType.Float FloatFormat.Double)) = false
-z_hidden (ResultType.Value (ValueType.Float FloatFormat.LongDouble)) = true
-z_hidden (ResultType.Value (ValueType.Struct s)) = true
+abbrev pub z_hidden : Option ValueType → Bool
+z_hidden None = false
+z_hidden (Some (ValueType.Integer k)) = false
+z_hidden (Some (ValueType.Float FloatFormat.Single)) = false
+z_hidden (Some (ValueType.Float FloatFormat.Double)) = false
+z_hidden (Some (ValueType.Float FloatFormat.LongDouble)) = true
+z_hidden (Some (ValueType.Struct s)) = true
 
 -- table 11: "general register 2 (r2)", "floating point register 0 (f0)"
-abbrev pub z_returned : ResultType → Returned
-z_returned ResultType.Nothing = Returned.Nothing
-z_returned (ResultType.Value (ValueType.Integer k)) = Returned.General (run_of 2 1)
-z_returned (ResultType.Value (ValueType.Float FloatFormat.Single)) = Returned.Floating (run_of 0 1)
-z_returned (ResultType.Value (ValueType.Float FloatFormat.Double)) = Returned.Floating (run_of 0 1)
-z_returned (ResultType.Value (ValueType.Float FloatFormat.LongDouble)) = Returned.Hidden (run_of 2 1)
-z_returned (ResultType.Value (ValueType.Struct s)) = Returned.Hidden (run_of 2 1)
+abbrev pub z_returned : Option ValueType → Returned
+z_returned None = Returned.Nothing
+z_returned (Some (ValueType.Integer k)) = Returned.General (run_of 2 1)
+z_returned (Some (ValueType.Float FloatFormat.Single)) = Returned.Floating (run_of 0 1)
+z_returned (Some (ValueType.Float FloatFormat.Double)) = Returned.Floating (run_of 0 1)
+z_returned (Some (ValueType.Float FloatFormat.LongDouble)) = Returned.Hidden (run_of 2 1)
+z_returned (Some (ValueType.Struct s)) = Returned.Hidden (run_of 2 1)

@@ -1,13 +1,12 @@
 -- The PowerPC conventions as source document 004 works, "Parameters": "lay all parameters out as one structure in memory first, then
 -- lay the registers over it" (02, No. 14). Over the bytes w of a word: 004 and code 3 have 4, codes 1 and 4 have 8. `paired`: a long double
 -- takes two FPRs, as in code 4; else it goes in words. `ellipsis`: the parameter list ends in one. Assumes nothing.
-use Rattle.std.specs.Prelude.{ℕ, zero, suc, ◌+◌, ◌-◌, ◌*◌, ◌/◌, min, max, Bool, true, false, List, [], ◌∷◌, leb, ltb}
+use Rattle.std.specs.Prelude.{ℕ, zero, suc, ◌+◌, ◌-◌, ◌*◌, ◌/◌, min, max, Bool, true, false, List, [], ◌∷◌, leb, ltb, Some, None, Option}
 use Rattle.base_words.specs.Basics.{pick, round_up}
 use Rattle.base_conventions.specs.declared.Convention.{Convention}
 use Rattle.sig_types.specs.declared.FloatFormat.{FloatFormat}
 use Rattle.sig_types.specs.declared.ValueType.{ValueType}
 use Rattle.sig_types.specs.Sizes.{size_of}
-use Rattle.sig_signatures.specs.declared.ResultType.{ResultType}
 use Rattle.second_parameters.specs.declared.Run.{Run}
 use Rattle.second_parameters.specs.declared.Parameter.{Parameter}
 use Rattle.second_parameters.specs.declared.Returned.{Returned}
@@ -104,18 +103,18 @@ first_straddling paired m i (t ∷ ts) = pick (straddles m (floats paired t)) (s
 -- ---- the result
 
 -- "If a function returns a composite value": through a hidden address
-abbrev pub power_hidden : ResultType → Bool
-power_hidden ResultType.Nothing = false
-power_hidden (ResultType.Value (ValueType.Integer k)) = false
-power_hidden (ResultType.Value (ValueType.Float f)) = false
-power_hidden (ResultType.Value (ValueType.Struct s)) = true
+abbrev pub power_hidden : Option ValueType → Bool
+power_hidden None = false
+power_hidden (Some (ValueType.Integer k)) = false
+power_hidden (Some (ValueType.Float f)) = false
+power_hidden (Some (ValueType.Struct s)) = true
 
 -- "floating-point function values are returned in register FPR1 (or FPR1 and FPR2 for long double values). Other values are
 -- returned in GPR3"; 02, No. 1: "64-bit wholes r3 and r4"; "the address is passed in GPR3"
-abbrev pub power_returned : Convention → ℕ → ResultType → Returned
-power_returned c w ResultType.Nothing = Returned.Nothing
-power_returned c w (ResultType.Value (ValueType.Integer k)) = Returned.General (run_of 3 (words_in w (size_of c (ValueType.Integer k))))
-power_returned c w (ResultType.Value (ValueType.Float FloatFormat.Single)) = Returned.Floating (run_of 1 1)
-power_returned c w (ResultType.Value (ValueType.Float FloatFormat.Double)) = Returned.Floating (run_of 1 1)
-power_returned c w (ResultType.Value (ValueType.Float FloatFormat.LongDouble)) = Returned.Floating (run_of 1 2)
-power_returned c w (ResultType.Value (ValueType.Struct s)) = Returned.Hidden (run_of 3 1)
+abbrev pub power_returned : Convention → ℕ → Option ValueType → Returned
+power_returned c w None = Returned.Nothing
+power_returned c w (Some (ValueType.Integer k)) = Returned.General (run_of 3 (words_in w (size_of c (ValueType.Integer k))))
+power_returned c w (Some (ValueType.Float FloatFormat.Single)) = Returned.Floating (run_of 1 1)
+power_returned c w (Some (ValueType.Float FloatFormat.Double)) = Returned.Floating (run_of 1 1)
+power_returned c w (Some (ValueType.Float FloatFormat.LongDouble)) = Returned.Floating (run_of 1 2)
+power_returned c w (Some (ValueType.Struct s)) = Returned.Hidden (run_of 3 1)

@@ -2,7 +2,7 @@
 // over it.
 #![tactic(auto)]
 
-ghost use Rattle.std.specs.Prelude.{◌≡◌, ◌*◌, ◌+◌, ◌-◌, ◌≤◌, ◌<◌, ◌^◌};
+ghost use Rattle.std.specs.Prelude.{◌≡◌, ◌*◌, ◌+◌, ◌≤◌, ◌<◌, ◌^◌};
 ghost use Rattle.sig_signatures.specs.Limits.{max_arguments};
 ghost use Rattle.sig_signatures.specs.Types.{types_in};
 ghost use Rattle.sig_signatures.specs.Helpers.{SmallResult, Plannable};
@@ -12,8 +12,8 @@ ghost use Rattle.second_structure.specs.Helpers.{Bounded};
 ghost use Rattle.sig_types.specs.Sizes.{max_size};
 
 use base_conventions::Convention;
-use second_parameters::{Parameter, Returned, Run};
-use sig_signatures::{MAX_ARGUMENTS, ResultType, SignatureRead};
+use second_parameters::{NO_PARAMETER, NO_RUN, Parameter, Returned, Run};
+use sig_signatures::{MAX_ARGUMENTS, SignatureRead};
 use sig_types::{FloatFormat, ValueType};
 
 // All parameters as one structure: the words of each, and how many words there are.
@@ -43,26 +43,17 @@ pub fn lay_out(word: usize, at: usize, g: SignatureRead) -> Structure
     requires { (0 < word) × (word ≤ 8) × (at ≤ 1) × Plannable g }
     ensures { (result ≡ structure_of g.convention word at (types_in g)) × (result.words ≤ 2 ^ 16) }
 {
-    let convention = g.convention;
-    let count = g.count;
-    let mut fields = [Run { first: 0, count: 0 }; MAX_ARGUMENTS];
-    let mut next = at;
-    let mut i: usize = 0;
-    while i < count {
-        let a = g.arguments[i];
-        let t = a.ty;
-        let n = words_in(word, sig_types::size_of(convention, t));
+    let mut fields = [NO_RUN; MAX_ARGUMENTS];
+    let mut words = at;
+    for (i, a) in g.arguments[..g.count].iter().enumerate() {
+        let count = words_in(word, sig_types::size_of(g.convention, a.ty));
         fields[i] = Run {
-            first: next,
-            count: n,
+            first: words,
+            count,
         };
-        next = next + n;
-        i = i + 1;
+        words += count;
     }
-    Structure {
-        fields,
-        words: next,
-    }
+    Structure { fields, words }
 }
 
 // The bytes of the parameter area of a structure of n words.
@@ -70,17 +61,7 @@ pub fn area_bytes(word: usize, n: usize) -> usize
     requires { (word ≤ 8) × (n ≤ 2 ^ 16) }
     ensures { result ≡ area_bytes word n }
 {
-    bytes_of(word, base_words::larger(n, 8))
-}
-
-// a - b, or 0 where b is larger.
-fn left(a: usize, b: usize) -> usize
-    ensures { result ≡ a - b }
-{
-    if a < b {
-        return 0;
-    }
-    a - b
+    bytes_of(word, n.max(8))
 }
 
 fn field_bytes(word: usize, f: Run) -> Run
@@ -95,19 +76,16 @@ fn over_words(word: usize, fprs: Run, f: Run) -> Parameter
     requires { (word ≤ 8) × (f.first + f.count ≤ 2 ^ 20) }
     ensures { result ≡ over_words word fprs f }
 {
-    let first = f.first;
-    let end = first + f.count;
-    let high = base_words::larger(first, 8);
-    let held = left(base_words::smaller(end, 8), first);
-    let stored = left(end, high);
-    let none = second_parameters::no_run();
+    let end = f.first + f.count;
+    let high = f.first.max(8);
+    let held = end.min(8).saturating_sub(f.first);
+    let stored = end.saturating_sub(high);
     Parameter {
-        general: second_parameters::run_of(3 + first, held),
+        general: second_parameters::run_of(3 + f.first, held),
         floating: fprs,
         field: field_bytes(word, f),
         memory: second_parameters::run_of(bytes_of(word, high), bytes_of(word, stored)),
-        copy: none,
-        reference: false,
+        ..NO_PARAMETER
     }
 }
 
@@ -116,14 +94,10 @@ fn over_floats(word: usize, fprs: Run, f: Run) -> Parameter
     requires { (word ≤ 8) × (f.first + f.count ≤ 2 ^ 20) }
     ensures { result ≡ over_floats word fprs f }
 {
-    let none = second_parameters::no_run();
     Parameter {
-        general: none,
         floating: fprs,
         field: field_bytes(word, f),
-        memory: none,
-        copy: none,
-        reference: false,
+        ..NO_PARAMETER
     }
 }
 
@@ -132,35 +106,25 @@ fn over_nothing(word: usize, f: Run) -> Parameter
     requires { (word ≤ 8) × (f.first + f.count ≤ 2 ^ 20) }
     ensures { result ≡ over_nothing word f }
 {
-    let none = second_parameters::no_run();
     let field = field_bytes(word, f);
     Parameter {
-        general: none,
-        floating: none,
         field,
         memory: field,
-        copy: none,
-        reference: false,
+        ..NO_PARAMETER
     }
 }
 
 // The FPRs that a parameter asks for.
+#[tactic(auto, unfolding(crate::specs::Structure::floats))]
 fn floats_of(paired: bool, t: ValueType) -> usize
     ensures { (result ≡ floats paired t) × (result ≤ 2) }
 {
     match t {
-        ValueType::Integer(_) => 0,
+        ValueType::Integer(_) | ValueType::Struct(_) => 0,
         ValueType::Float(f) => match f {
-            FloatFormat::Single => 1,
-            FloatFormat::Double => 1,
-            FloatFormat::LongDouble => {
-                if paired {
-                    return 2;
-                }
-                0
-            }
+            FloatFormat::Single | FloatFormat::Double => 1,
+            FloatFormat::LongDouble => { if paired { 2 } else { 0 } }
         },
-        ValueType::Struct(_) => 0,
     }
 }
 
@@ -169,21 +133,20 @@ fn lay_over(ellipsis: bool, word: usize, asked: usize, earlier: usize, f: Run) -
     requires { (word ≤ 8) × (f.first + f.count ≤ 2 ^ 20) × (earlier ≤ 2 ^ 20) × (asked ≤ 2) }
     ensures { result ≡ laid_over ellipsis word asked earlier f }
 {
-    let none = second_parameters::no_run();
     if asked == 0 {
-        return over_words(word, none, f);
-    }
-    if 13 < earlier + asked {
+        over_words(word, NO_RUN, f)
+    } else if earlier + asked <= 13 {
+        let fprs = second_parameters::run_of(1 + earlier, asked);
         if ellipsis {
-            return over_words(word, none, f);
+            over_words(word, fprs, f)
+        } else {
+            over_floats(word, fprs, f)
         }
-        return over_nothing(word, f);
+    } else if ellipsis {
+        over_words(word, NO_RUN, f)
+    } else {
+        over_nothing(word, f)
     }
-    let fprs = second_parameters::run_of(1 + earlier, asked);
-    if ellipsis {
-        return over_words(word, fprs, f);
-    }
-    over_floats(word, fprs, f)
 }
 
 // The registers over the whole structure.
@@ -197,18 +160,12 @@ pub fn lay_registers(
     requires { (word ≤ 8) × Plannable g × Bounded s.fields }
     ensures { result ≡ table_with no_parameter (registers_over ellipsis paired word 0 (types_in g) s.fields) }
 {
-    let count = g.count;
     let mut laid = second_parameters::no_parameters();
-    let mut earlier: usize = 0;
-    let mut i: usize = 0;
-    while i < count {
-        let a = g.arguments[i];
-        let f = s.fields[i];
-        let t = a.ty;
-        let asked = floats_of(paired, t);
-        laid[i] = lay_over(ellipsis, word, asked, earlier, f);
-        earlier = earlier + asked;
-        i = i + 1;
+    let mut earlier = 0;
+    for (i, a) in g.arguments[..g.count].iter().enumerate() {
+        let asked = floats_of(paired, a.ty);
+        laid[i] = lay_over(ellipsis, word, asked, earlier, s.fields[i]);
+        earlier += asked;
     }
     laid
 }
@@ -218,60 +175,47 @@ fn is_straddling(earlier: usize, asked: usize) -> bool
     requires { (earlier ≤ 2 ^ 20) × (asked ≤ 2) }
     ensures { result ≡ straddles earlier asked }
 {
-    if earlier < 13 {
-        return 13 < earlier + asked;
-    }
-    false
+    earlier < 13 && 13 < earlier + asked
 }
 
-// The number of the first such parameter, counted from 1; 0 where there is none.
+// The number of the first such parameter, counted from 1; 0 where there is none. It is no `Option`: the first planner has the same number,
+// and the crate second_agreement states the two equal.
 pub fn first_straddling(paired: bool, g: SignatureRead) -> usize
     requires { Plannable g }
     ensures { result ≡ first_straddling paired 0 0 (types_in g) }
 {
-    let count = g.count;
-    let mut earlier: usize = 0;
-    let mut i: usize = 0;
-    while i < count {
-        let a = g.arguments[i];
-        let t = a.ty;
-        let asked = floats_of(paired, t);
+    let mut earlier = 0;
+    for (i, a) in g.arguments[..g.count].iter().enumerate() {
+        let asked = floats_of(paired, a.ty);
         if is_straddling(earlier, asked) {
             return i + 1;
         }
-        earlier = earlier + asked;
-        i = i + 1;
+        earlier += asked;
     }
     0
 }
 
-pub fn power_hidden(r: ResultType) -> bool
+pub fn power_hidden(r: Option<ValueType>) -> bool
     ensures { result ≡ power_hidden r }
 {
-    match r {
-        ResultType::Nothing => false,
-        ResultType::Value(t) => match t {
-            ValueType::Integer(_) => false,
-            ValueType::Float(_) => false,
-            ValueType::Struct(_) => true,
-        },
-    }
+    matches!(r, Some(ValueType::Struct(_)))
 }
 
-pub fn power_returned(c: Convention, word: usize, r: ResultType) -> Returned
+pub fn power_returned(c: Convention, word: usize, r: Option<ValueType>) -> Returned
     requires { (0 < word) × (word ≤ 8) × SmallResult c r }
     ensures { result ≡ power_returned c word r }
 {
     match r {
-        ResultType::Nothing => Returned::Nothing,
-        ResultType::Value(t) => match t {
+        None => Returned::Nothing,
+        Some(t) => match t {
             ValueType::Integer(_) => {
                 let n = words_in(word, sig_types::size_of(c, t));
                 Returned::General(second_parameters::run_of(3, n))
             }
             ValueType::Float(f) => match f {
-                FloatFormat::Single => Returned::Floating(second_parameters::run_of(1, 1)),
-                FloatFormat::Double => Returned::Floating(second_parameters::run_of(1, 1)),
+                FloatFormat::Single | FloatFormat::Double => {
+                    Returned::Floating(second_parameters::run_of(1, 1))
+                }
                 FloatFormat::LongDouble => Returned::Floating(second_parameters::run_of(1, 2)),
             },
             ValueType::Struct(_) => Returned::Hidden(second_parameters::run_of(3, 1)),
@@ -282,8 +226,5 @@ pub fn power_returned(c: Convention, word: usize, r: ResultType) -> Returned
 pub fn hidden_words(hidden: bool) -> usize
     ensures { (result ≡ hidden_words hidden) × (result ≤ 1) }
 {
-    if hidden {
-        return 1;
-    }
-    0
+    usize::from(hidden)
 }

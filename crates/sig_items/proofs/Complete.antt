@@ -1,4 +1,6 @@
 -- Every encoding of a type within the limits is read, and gives the type back. Assumes nothing.
+use Rattle.sig_types.specs.Codes.{integer_code, float_code, integer_number, float_number}
+use Rattle.std.proofs.Common.{Ok}
 use Prim.Native.Nat.{ℕ, ◌+◌, ◌-◌, ◌≤◌}
 use mathlib.Core.Path.{◌≡◌, refl, sym, ap, ◌∙◌}
 use mathlib.Core.Bool.{false}
@@ -13,11 +15,9 @@ use Rattle.sig_types.specs.declared.FloatFormat.{FloatFormat}
 use Rattle.sig_types.specs.Sizes.{size_of, lacks_float}
 use Rattle.sig_types.specs.Structs.{shape_of}
 use Rattle.sig_types.specs.Trees.{Tree, Trees, integer, float, struct, none, ◌▸◌, type_of, fields_of, count_of}
-use Rattle.sig_items.specs.declared.IntegerCode.{IntegerCode}
-use Rattle.sig_items.specs.declared.Body.{Body}
 use Rattle.sig_items.specs.Reading.{Reading, got}
-use Rattle.sig_items.specs.Read.{body_at, integer_code, float_code, integer_at, float_of, float_at, sequence, sized_at, item_at}
-use Rattle.sig_items.specs.Encode.{integer_number, float_number, item, encode_tree, encode_trees, items_of, items_in}
+use Rattle.sig_items.specs.Read.{body_at, integer_at, float_of, float_at, sequence, sized_at, item_at}
+use Rattle.sig_items.specs.Encode.{item, encode_tree, encode_trees, items_of, items_in}
 use Rattle.sig_items.proofs.Laws.{body-to, sequence-done, sequence-more, struct-read, item-integer, item-float, item-struct}
 use Rattle.sig_items.proofs.Levels.{FloatLeft, Left, AllLeft}
 use Rattle.sig_items.proofs.Has.{Has, has_left, has_right, item-tag, item-length, item-body, item-byte, length-item}
@@ -25,7 +25,7 @@ use Rattle.sig_items.proofs.Trees.{tree-long, some-long, count_most}
 
 -- the codes
 
-integer-code : (k : IntegerKind) → integer_code (integer_number k) ≡ IntegerCode.Kind k
+integer-code : (k : IntegerKind) → integer_code (integer_number k) ≡ Ok k
 unfolding integer_code
 integer-code IntegerKind.I8 = refl
 integer-code IntegerKind.U8 = refl
@@ -63,11 +63,11 @@ same-sequence reader e ts p q r = cc
 module _ (c : Convention) (s : List ℕ) where
   -- the header of an encoded item
   pub header-reads : (low high tag : ℕ) (body : List ℕ) (e at next : ℕ) → low ≤ tag → tag ≤ high → Has s at (item tag body) →
-      next ≡ at + 3 + length body → next ≤ e → body_at s low high e at ≡ Body.To next
+      next ≡ at + 3 + length body → next ≤ e → body_at s low high e at ≡ Ok next
   header-reads low high tag body e at next l u h q room =
       let is = item-tag s tag body at h in
       body-to s low high e at (omega arith) (omega arith) (omega arith) (length body) (item-length s tag body at h) (omega arith)
-      ∙ ap Body.To (sym q)
+      ∙ ap Ok (sym q)
 
   mutual
     unfolding encode_tree Left items_of count_of

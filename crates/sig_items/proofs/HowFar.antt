@@ -1,5 +1,9 @@
 -- How far readings go: the headers that a reading counts lead, header by header, from its first item to where it ends or stops. Pushed
 -- through each definition. Assumes nothing.
+use Rattle.sig_types.specs.Codes.{integer_code, float_code}
+use Rattle.sig_types.specs.declared.IntegerKind.{IntegerKind}
+use Rattle.sig_types.specs.declared.UnknownCode.{UnknownCode}
+use Rattle.std.proofs.Common.{Ok, Err, Result}
 use Prim.Native.Nat.{ℕ, zero, suc, ◌+◌, ◌-◌, ◌*◌, ◌≤◌, ◌<◌}
 use mathlib.Core.Path.{◌≡◌, refl, sym, ap, ◌∙◌}
 use mathlib.Core.Logic.{inr}
@@ -18,10 +22,8 @@ use Rattle.sig_types.specs.Structs.{shape_of}
 use Rattle.sig_types.specs.Trees.{Tree, Trees, none, ◌▸◌, fields_of}
 use Rattle.sig_items.specs.declared.Refusal.{Refusal}
 use Rattle.sig_items.specs.declared.Fault.{Fault}
-use Rattle.sig_items.specs.declared.IntegerCode.{IntegerCode}
-use Rattle.sig_items.specs.declared.FloatCode.{FloatCode}
 use Rattle.sig_items.specs.Reading.{Reading, fault, got, no, later, later_reading, and_then, in_body}
-use Rattle.sig_items.specs.Read.{length_at, body_at, integer_code, float_code, integer_by, integer_at, float_of, float_by, float_at, sequence, sized_at, contents_at, item_by, struct_at, item_at}
+use Rattle.sig_items.specs.Read.{length_at, body_at, integer_by, integer_at, float_of, float_by, float_at, sequence, sized_at, contents_at, item_by, struct_at, item_at}
 use Rattle.sig_items.specs.HowFar.{encloses, next_header, place_of_header, is_large, stop_of, met_by, IsTag, PassedHeader, HeadersPassed, HowFar}
 use Rattle.sig_items.proofs.Sound.{by-choose, Framed, body-cases}
 
@@ -185,9 +187,9 @@ module _ (s : List ℕ) (e at b : ℕ) (room : at ≤ e) (framed : Framed s 0x10
   unfolding integer_at
   integer-goes = by-pick (Goes s e at) (eqb b (at + 4)) _ _ (λ _. go (integer_code (get_or s (at + 3) 0))) (λ _. stops-here s e at Refusal.Malformed refl room)
     where
-      go : (x : IntegerCode) → Goes s e at (integer_by x at b)
-      go (IntegerCode.Kind k) = one-goes k
-      go IntegerCode.Unknown = stops-here s e at Refusal.Malformed refl room
+      go : (x : Result IntegerKind UnknownCode) → Goes s e at (integer_by x at b)
+      go (Ok k) = one-goes k
+      go (Err _) = stops-here s e at Refusal.Malformed refl room
 
   carried-goes : (c : Convention) (f : FloatFormat) (inside : Bool) → Goes s e at (float_of c f inside at b)
   unfolding float_of
@@ -197,12 +199,12 @@ module _ (s : List ℕ) (e at b : ℕ) (room : at ≤ e) (framed : Framed s 0x10
   unfolding float_at
   float-goes c inside = by-pick (Goes s e at) (eqb b (at + 4)) _ _ (λ _. go (float_code (get_or s (at + 3) 0))) (λ _. stops-here s e at Refusal.Malformed refl room)
     where
-      go : (x : FloatCode) → Goes s e at (float_by c x inside at b)
-      go (FloatCode.Format FloatFormat.Single) = carried-goes c FloatFormat.Single inside
-      go (FloatCode.Format FloatFormat.Double) = carried-goes c FloatFormat.Double inside
-      go (FloatCode.Format FloatFormat.LongDouble) =
+      go : (x : Result FloatFormat UnknownCode) → Goes s e at (float_by c x inside at b)
+      go (Ok FloatFormat.Single) = carried-goes c FloatFormat.Single inside
+      go (Ok FloatFormat.Double) = carried-goes c FloatFormat.Double inside
+      go (Ok FloatFormat.LongDouble) =
           by-pick (Goes s e at) inside _ _ (λ _. stops-here s e at Refusal.LongDoubleInStruct refl room) (λ _. carried-goes c FloatFormat.LongDouble inside)
-      go FloatCode.Unknown = stops-here s e at Refusal.Malformed refl room
+      go (Err _) = stops-here s e at Refusal.Malformed refl room
 
 -- a header's own body is room enough for it
 pub framed-here : {s : List ℕ} {low high e at b : ℕ} → Framed s low high e at b → Framed s low high b at b

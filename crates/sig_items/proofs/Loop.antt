@@ -1,4 +1,6 @@
 -- The loop over a struct's fields: its invariant, and what each way out of a turn gives. Assumes nothing.
+use Rattle.sig_items.specs.declared.Item.{Item}
+use Rattle.std.proofs.Common.{Err, Result}
 use Prim.Native.Nat.{ℕ, ◌+◌, ◌-◌, ◌*◌, ◌≤◌, ◌<◌}
 use mathlib.Core.Path.{◌≡◌, refl, sym, ap, ◌∙◌}
 use mathlib.Core.List.{List}
@@ -10,24 +12,23 @@ use Rattle.sig_types.specs.Structs.{no_fields, with_field, closed}
 use Rattle.sig_types.specs.Trees.{Trees, none, ◌▸◌, fields_of}
 use Rattle.sig_types.proofs.Laws.{Aligned, none-aligned, more-aligned, more-end}
 use Rattle.sig_items.specs.declared.Fault.{Fault}
-use Rattle.sig_items.specs.declared.ItemRead.{ItemRead}
 use Rattle.sig_items.specs.Reading.{later}
 use Rattle.sig_items.specs.Read.{sequence, struct_at, item_at}
-use Rattle.sig_items.specs.Answer.{item_answer, closed_answer}
+use Rattle.sig_items.specs.Answer.{item_answer, closed_answer, item_found}
 use Rattle.sig_items.proofs.Laws.{contents, sequence-done, sequence-more, sequence-no, struct-refused, struct-read, item-got, item-no, sized-answer}
 use Rattle.sig_items.proofs.Sound.{Taken, item-taken}
 use Rattle.sig_items.proofs.HowFar.{fault-third}
 
 -- what an answer says of an item within the end e; the tree is gone, its type is there
-pub item-answered : (c : Convention) (d : ℕ) (s : List ℕ) (e at : ℕ) (r : ItemRead) (t : ValueType) (next n : ℕ) → d ≤ 8 →
-    r ≡ item_answer c (item_at c d s e at) → r ≡ ItemRead.Item t next n → Taken c e at t next n
+pub item-answered : (c : Convention) (d : ℕ) (s : List ℕ) (e at : ℕ) (r : Result Item Fault) (t : ValueType) (next n : ℕ) → d ≤ 8 →
+    r ≡ item_answer c (item_at c d s e at) → r ≡ item_found t next n → Taken c e at t next n
 item-answered c d s e at r t next n h found q =
     let (tree, is, same) = item-got c (item_at c d s e at) t next n (sym q ∙ found) in
     rw same (item-taken c d s e at tree next n h is)
 
 -- and of a refused one: three bytes or more for each header that had passed
-pub fault-answered : (c : Convention) (d : ℕ) (s : List ℕ) (e at : ℕ) (r : ItemRead) (f : Fault) → at ≤ e →
-    r ≡ item_answer c (item_at c d s e at) → r ≡ ItemRead.Refused f → at + 3 * f.passed ≤ e
+pub fault-answered : (c : Convention) (d : ℕ) (s : List ℕ) (e at : ℕ) (r : Result Item Fault) (f : Fault) → at ≤ e →
+    r ≡ item_answer c (item_at c d s e at) → r ≡ Err f → at + 3 * f.passed ≤ e
 fault-answered c d s e at r f h found q = fault-third c d s e at f h (item-no c (item_at c d s e at) f (sym q ∙ found))
 
 -- the fields so far, and that reading on from here gives what the struct's contents are
@@ -62,9 +63,9 @@ module _ (c : Convention) (d : ℕ) (s : List ℕ) (at b : ℕ) where
     end = rw q (omega arith);
   }
 
-  module _ (l : Fields) (next n : ℕ) (turn : Turn c d s at b l next n) (h : next < b) (r : ItemRead)
+  module _ (l : Fields) (next n : ℕ) (turn : Turn c d s at b l next n) (h : next < b) (r : Result Item Fault)
       (found : r ≡ item_answer c (item_at c (d - 1) s b next)) where
-    pub turn_more : d ≤ 8 → (t : ValueType) (after m : ℕ) → r ≡ ItemRead.Item t after m → (k : Fields) → k ≡ with_field c l t →
+    pub turn_more : d ≤ 8 → (t : ValueType) (after m : ℕ) → r ≡ item_found t after m → (k : Fields) → k ≡ with_field c l t →
         Turn c d s at b k after (n + m)
     unfolding fields_of
     turn_more deep t after m q k is =
@@ -84,8 +85,8 @@ module _ (c : Convention) (d : ℕ) (s : List ℕ) (at b : ℕ) where
           end = rw is (omega arith);
         }
 
-    pub turn-no : 0 < d → at + 3 < b → (f : Fault) → r ≡ ItemRead.Refused f →
-        ItemRead.Refused (later n f) ≡ item_answer c (struct_at c d s at b)
+    pub turn-no : 0 < d → at + 3 < b → (f : Fault) → r ≡ Err f →
+        Err (later n f) ≡ item_answer c (struct_at c d s at b)
     turn-no some more f q =
         let read = item-no c (item_at c (d - 1) s b next) f (sym q ∙ found) in
         sym (ap (item_answer c) (struct-refused c d s at b some more (later n f)

@@ -1,5 +1,9 @@
 -- No type item and no struct's body gives refusal 7 (specs/Seven.antt states it): each item of a body moves on, so that the body's end is
 -- met before its length in items. Assumes nothing.
+use Rattle.sig_types.specs.Codes.{integer_code, float_code}
+use Rattle.sig_types.specs.declared.IntegerKind.{IntegerKind}
+use Rattle.sig_types.specs.declared.UnknownCode.{UnknownCode}
+use Rattle.std.proofs.Common.{Ok, Err, Result}
 use Prim.Native.Nat.{ℕ, zero, suc, ◌+◌, ◌-◌, ◌≤◌, ◌<◌}
 use mathlib.Core.Bool.{Bool}
 use mathlib.Core.List.{List}
@@ -13,11 +17,9 @@ use Rattle.sig_types.specs.declared.FloatFormat.{FloatFormat}
 use Rattle.sig_types.specs.Sizes.{lacks_float}
 use Rattle.sig_types.specs.Structs.{shape_of, too_large}
 use Rattle.sig_types.specs.Trees.{Tree, Trees, none, ◌▸◌, fields_of}
-use Rattle.sig_items.specs.declared.IntegerCode.{IntegerCode}
-use Rattle.sig_items.specs.declared.FloatCode.{FloatCode}
 use Rattle.sig_items.specs.Reading.{Reading, got, no, later_reading, and_then, in_body}
 use Rattle.sig_items.specs.Refusals.{refusal_number}
-use Rattle.sig_items.specs.Read.{integer_code, float_code, integer_by, integer_at, float_of, float_by, float_at, sequence, sized_at, contents_at, by_tag, item_by, struct_at, item_at}
+use Rattle.sig_items.specs.Read.{integer_by, integer_at, float_of, float_by, float_at, sequence, sized_at, contents_at, by_tag, item_by, struct_at, item_at}
 use Rattle.sig_items.specs.Seven.{Other, NotSeven, ItemsNotSeven, StructsNotSeven}
 use Rattle.sig_items.proofs.Sound.{Got, Read, by-choose, item-sound, body-cases}
 use Rattle.sig_items.proofs.Trees.{tree-long}
@@ -28,9 +30,9 @@ integer-not-seven : (s : List ℕ) (at b : ℕ) → NotSeven (integer_at s at b)
 unfolding integer_at
 integer-not-seven s at b = by-pick NotSeven (eqb b (at + 4)) _ _ (λ _. go (integer_code (get_or s (at + 3) 0))) (λ _ q. omega arith)
   where
-    go : (x : IntegerCode) → NotSeven (integer_by x at b)
-    go (IntegerCode.Kind k) = λ q. omega arith
-    go IntegerCode.Unknown = λ q. omega arith
+    go : (x : Result IntegerKind UnknownCode) → NotSeven (integer_by x at b)
+    go (Ok k) = λ q. omega arith
+    go (Err _) = λ q. omega arith
 
 carried-not-seven : (c : Convention) (f : FloatFormat) (inside : Bool) (at b : ℕ) → NotSeven (float_of c f inside at b)
 unfolding float_of
@@ -40,11 +42,11 @@ float-not-seven : (c : Convention) (s : List ℕ) (inside : Bool) (at b : ℕ) �
 unfolding float_at
 float-not-seven c s inside at b = by-pick NotSeven (eqb b (at + 4)) _ _ (λ _. go (float_code (get_or s (at + 3) 0))) (λ _ q. omega arith)
   where
-    go : (x : FloatCode) → NotSeven (float_by c x inside at b)
-    go (FloatCode.Format FloatFormat.Single) = carried-not-seven c FloatFormat.Single inside at b
-    go (FloatCode.Format FloatFormat.Double) = carried-not-seven c FloatFormat.Double inside at b
-    go (FloatCode.Format FloatFormat.LongDouble) = by-pick NotSeven inside _ _ (λ _ q. omega arith) (λ _. carried-not-seven c FloatFormat.LongDouble inside at b)
-    go FloatCode.Unknown = λ q. omega arith
+    go : (x : Result FloatFormat UnknownCode) → NotSeven (float_by c x inside at b)
+    go (Ok FloatFormat.Single) = carried-not-seven c FloatFormat.Single inside at b
+    go (Ok FloatFormat.Double) = carried-not-seven c FloatFormat.Double inside at b
+    go (Ok FloatFormat.LongDouble) = by-pick NotSeven inside _ _ (λ _ q. omega arith) (λ _. carried-not-seven c FloatFormat.LongDouble inside at b)
+    go (Err _) = λ q. omega arith
 
 -- ---- a sequence whose limit is not less than its bytes
 

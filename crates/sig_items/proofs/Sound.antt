@@ -1,5 +1,9 @@
 -- What is read is an encoding: the type is within the limits, its bytes stand there, and the place after it and the count of
 -- items are those of its encoding. A property of readings is pushed through each definition. Assumes nothing.
+use Rattle.sig_types.specs.Codes.{integer_code, float_code, integer_number, float_number}
+use Rattle.sig_types.specs.declared.IntegerKind.{IntegerKind}
+use Rattle.sig_types.specs.declared.UnknownCode.{UnknownCode}
+use Rattle.std.proofs.Common.{Ok, Err, Result}
 use Prim.Native.Nat.{ℕ, zero, suc, ◌+◌, ◌-◌, ◌*◌, ◌≤◌, ◌<◌}
 use mathlib.Core.Path.{◌≡◌, refl}
 use mathlib.Core.Bool.{Bool, true, false}
@@ -16,13 +20,10 @@ use Rattle.sig_types.specs.declared.ValueType.{ValueType}
 use Rattle.sig_types.specs.Sizes.{lacks_float, Sized}
 use Rattle.sig_types.specs.Structs.{shape_of}
 use Rattle.sig_types.specs.Trees.{Tree, Trees, none, ◌▸◌, type_of, fields_of, count_of}
-use Rattle.sig_items.specs.declared.IntegerCode.{IntegerCode}
-use Rattle.sig_items.specs.declared.FloatCode.{FloatCode}
-use Rattle.sig_items.specs.declared.Body.{Body}
 use Rattle.sig_items.specs.declared.Refusal.{Refusal}
 use Rattle.sig_items.specs.Reading.{Reading, got, no, later_reading, choose, and_then, in_body}
-use Rattle.sig_items.specs.Read.{length_at, body_at, integer_code, float_code, integer_by, integer_at, float_of, float_by, float_at, sequence, sized_at, contents_at, item_by, struct_at, item_at}
-use Rattle.sig_items.specs.Encode.{integer_number, float_number, item, encode_tree, encode_trees, items_of, items_in}
+use Rattle.sig_items.specs.Read.{length_at, body_at, integer_by, integer_at, float_of, float_by, float_at, sequence, sized_at, contents_at, item_by, struct_at, item_at}
+use Rattle.sig_items.specs.Encode.{item, encode_tree, encode_trees, items_of, items_in}
 use Rattle.sig_items.proofs.Levels.{FloatLeft, Left, AllLeft, left-sized}
 use Rattle.sig_items.proofs.Has.{Has, has_move, has-append, has-item, length-item}
 use Rattle.sig_items.proofs.Trees.{tree-long, tree-third, long-some}
@@ -69,8 +70,8 @@ pub record Framed (s : List ℕ) (low high e at b : ℕ) : Type 0 where
   pub inside : b ≤ e
 
 -- what a header may answer: two refusals, or a body
-pub body-cases : (P : Body → Type 0) (s : List ℕ) (low high e at : ℕ) → P (Body.Refused Refusal.Truncated) → P (Body.Refused Refusal.UnexpectedTag) →
-    ((b : ℕ) → Framed s low high e at b → P (Body.To b)) → P (body_at s low high e at)
+pub body-cases : (P : Result ℕ Refusal → Type 0) (s : List ℕ) (low high e at : ℕ) → P (Err Refusal.Truncated) → P (Err Refusal.UnexpectedTag) →
+    ((b : ℕ) → Framed s low high e at b → P (Ok b)) → P (body_at s low high e at)
 unfolding body_at
 body-cases P s low high e at short tagged to =
     let tag = get_or s at 0 in
@@ -81,15 +82,15 @@ body-cases P s low high e at short tagged to =
     (λ h. by-pick P (ltb e b) _ _ (λ _. short)
     (λ room. to b (record { least = ltb-false tag low l; most = ltb-false high tag h; ends = refl; inside = ltb-false e b room })))))
 
-abbrev BodyIs : List ℕ → ℕ → ℕ → ℕ → ℕ → Body → Type 0
-BodyIs s low high e at (Body.To b) = Framed s low high e at b
-BodyIs s low high e at (Body.Refused r) = Unit {0}
+abbrev BodyIs : List ℕ → ℕ → ℕ → ℕ → ℕ → Result ℕ Refusal → Type 0
+BodyIs s low high e at (Ok b) = Framed s low high e at b
+BodyIs s low high e at (Err r) = Unit {0}
 
 body_is : (s : List ℕ) (low high e at : ℕ) → BodyIs s low high e at (body_at s low high e at)
 body_is s low high e at = body-cases (BodyIs s low high e at) s low high e at tt tt (λ b framed. framed)
 
 -- the same of a body that was found
-pub body-framed : (s : List ℕ) (low high e at b : ℕ) → body_at s low high e at ≡ Body.To b → Framed s low high e at b
+pub body-framed : (s : List ℕ) (low high e at b : ℕ) → body_at s low high e at ≡ Ok b → Framed s low high e at b
 body-framed s low high e at b q = rw q at (body_is s low high e at)
 
 pub by-body : {A : Type 0} (P : A → ℕ → ℕ → Type 0) (s : List ℕ) (low high e at : ℕ) (f : ℕ → Reading A) →
@@ -98,9 +99,9 @@ by-body P s low high e at f g = body-cases (λ x. Got P (in_body x at f)) s low 
 
 -- the codes
 
-abbrev IntegerIs : ℕ → IntegerCode → Type 0
-IntegerIs x (IntegerCode.Kind k) = x ≡ integer_number k
-IntegerIs x IntegerCode.Unknown = Unit {0}
+abbrev IntegerIs : ℕ → Result IntegerKind UnknownCode → Type 0
+IntegerIs x (Ok k) = x ≡ integer_number k
+IntegerIs x (Err _) = Unit {0}
 
 integer-is : (x : ℕ) → IntegerIs x (integer_code x)
 unfolding integer_code
@@ -115,9 +116,9 @@ integer-is x =
     (λ _. by-pick (IntegerIs x) (eqb x 7) _ _ (eqb-true x 7)
     (λ _. by-pick (IntegerIs x) (eqb x 8) _ _ (eqb-true x 8) (λ _. tt)))))))))
 
-abbrev FloatIs : ℕ → FloatCode → Type 0
-FloatIs x (FloatCode.Format f) = x ≡ float_number f
-FloatIs x FloatCode.Unknown = Unit {0}
+abbrev FloatIs : ℕ → Result FloatFormat UnknownCode → Type 0
+FloatIs x (Ok f) = x ≡ float_number f
+FloatIs x (Err _) = Unit {0}
 
 float_is : (x : ℕ) → FloatIs x (float_code x)
 unfolding float_code
@@ -144,11 +145,11 @@ module _ (c : Convention) (d : ℕ) (s : List ℕ) (e at b : ℕ) (framed : Fram
   integer-sound t = by-pick (Got (Read c d s e at)) (eqb b (at + 4)) _ _
       (λ q. go (integer_code (get_or s (at + 3) 0)) (eqb-true b (at + 4) q) (integer-is (get_or s (at + 3) 0))) (λ _. tt)
     where
-      go : (x : IntegerCode) → b ≡ at + 4 → IntegerIs (get_or s (at + 3) 0) x → Got (Read c d s e at) (integer_by x at b)
-      go (IntegerCode.Kind k) q v =
+      go : (x : Result IntegerKind UnknownCode) → b ≡ at + 4 → IntegerIs (get_or s (at + 3) 0) x → Got (Read c d s e at) (integer_by x at b)
+      go (Ok k) q v =
           let size = length-item 0x10 (integer_number k ∷ []) in
           record { within = tt; here = has-byte 0x10 (integer_number k) t q v; ends = omega arith; inside = framed.inside; count = refl }
-      go IntegerCode.Unknown q v = tt
+      go (Err _) q v = tt
 
   float-sound : get_or s at 0 ≡ 0x11 → Got (Read c d s e at) (float_at c s (ltb d 8) at b)
   unfolding float_at float_of encode_tree Left items_of
@@ -160,12 +161,12 @@ module _ (c : Convention) (d : ℕ) (s : List ℕ) (e at b : ℕ) (framed : Fram
           let size = length-item 0x11 (float_number f ∷ []) in
           record { within = (w, l); here = has-byte 0x11 (float_number f) t q v; ends = omega arith; inside = framed.inside; count = refl })
 
-      go : (x : FloatCode) → b ≡ at + 4 → FloatIs (get_or s (at + 3) 0) x → Got (Read c d s e at) (float_by c x (ltb d 8) at b)
-      go (FloatCode.Format FloatFormat.Single) q v = one FloatFormat.Single q v tt
-      go (FloatCode.Format FloatFormat.Double) q v = one FloatFormat.Double q v tt
-      go (FloatCode.Format FloatFormat.LongDouble) q v =
+      go : (x : Result FloatFormat UnknownCode) → b ≡ at + 4 → FloatIs (get_or s (at + 3) 0) x → Got (Read c d s e at) (float_by c x (ltb d 8) at b)
+      go (Ok FloatFormat.Single) q v = one FloatFormat.Single q v tt
+      go (Ok FloatFormat.Double) q v = one FloatFormat.Double q v tt
+      go (Ok FloatFormat.LongDouble) q v =
           by-pick (Got (Read c d s e at)) (ltb d 8) _ _ (λ _. tt) (λ l. one FloatFormat.LongDouble q v (ltb-false d 8 l))
-      go FloatCode.Unknown q v = tt
+      go (Err _) q v = tt
 
 -- types one after the other, from `start` on, after n₀ items
 pub record AllRead (c : Convention) (d : ℕ) (s : List ℕ) (b start n₀ : ℕ) (ts : Trees) (next n : ℕ) : Type 0 where

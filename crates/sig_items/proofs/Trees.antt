@@ -1,4 +1,5 @@
 -- The lengths and counts of encodings, and that they are bytes. Assumes nothing.
+use Rattle.sig_types.specs.Codes.{integer_number, float_number}
 use Prim.Native.Nat.{ℕ, ◌+◌, ◌*◌, ◌/◌, ◌%◌, ◌≤◌, ◌<◌}
 use mathlib.Core.Path.{◌≡◌}
 use mathlib.Core.List.{List, [], ◌∷◌}
@@ -10,7 +11,7 @@ use Rattle.sig_types.specs.declared.IntegerKind.{IntegerKind}
 use Rattle.sig_types.specs.declared.FloatFormat.{FloatFormat}
 use Rattle.sig_types.specs.Trees.{Tree, Trees, integer, float, struct, none, ◌▸◌, count_of}
 use Rattle.sig_types.specs.Limits.{Some}
-use Rattle.sig_items.specs.Encode.{integer_number, float_number, item, encode_tree, encode_trees, items_of, items_in}
+use Rattle.sig_items.specs.Encode.{item, encode_tree, encode_trees, items_of, items_in}
 use Rattle.sig_items.proofs.Has.{length-item}
 
 pub length_more : (ts : Trees) (t : Tree) → length (encode_trees (ts ▸ t)) ≡ length (encode_trees ts) + length (encode_tree t)

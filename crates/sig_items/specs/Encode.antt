@@ -1,25 +1,8 @@
 -- The bytes of a type: the format of document 01, "A signature's bytes", the other way round. It shares no definition with
 -- the reader, so that the two check each other. Assumes nothing.
 use Rattle.std.specs.Prelude.{ℕ, ◌+◌, ◌/◌, ◌%◌, List, [], ◌∷◌, ◌++◌, length}
-use Rattle.sig_types.specs.declared.IntegerKind.{IntegerKind}
-use Rattle.sig_types.specs.declared.FloatFormat.{FloatFormat}
+use Rattle.sig_types.specs.Codes.{integer_number, float_number}
 use Rattle.sig_types.specs.Trees.{Tree, Trees, integer, float, struct, none, ◌▸◌}
-
-abbrev pub integer_number : IntegerKind → ℕ
-integer_number IntegerKind.I8 = 0
-integer_number IntegerKind.U8 = 1
-integer_number IntegerKind.I16 = 2
-integer_number IntegerKind.U16 = 3
-integer_number IntegerKind.I32 = 4
-integer_number IntegerKind.U32 = 5
-integer_number IntegerKind.I64 = 6
-integer_number IntegerKind.U64 = 7
-integer_number IntegerKind.Pointer = 8
-
-abbrev pub float_number : FloatFormat → ℕ
-float_number FloatFormat.Single = 0
-float_number FloatFormat.Double = 1
-float_number FloatFormat.LongDouble = 2
 
 -- "An item is a one-byte tag, a two-byte length and a body"
 unfoldable pub item : ℕ → List ℕ → List ℕ

@@ -1,7 +1,9 @@
 -- What reading a type item finds: document 01, "A signature's bytes", with the refusals in the order "At an item: header
 -- room, tag, length room, then depth (6), body (4), long double (5), contents, size (8)", and No. 1's 25 after 5. The list s is the whole signature,
 -- `at` the place of an item's header, e the enclosing end and b the end of an item's body. Assumes nothing.
-use Rattle.std.specs.Prelude.{ℕ, zero, suc, ◌+◌, ◌-◌, ◌*◌, Bool, List, get_or, ltb, eqb}
+use Rattle.sig_types.specs.Codes.{integer_code, float_code}
+use Rattle.sig_types.specs.declared.UnknownCode.{UnknownCode}
+use Rattle.std.specs.Prelude.{ℕ, zero, suc, ◌+◌, ◌-◌, ◌*◌, Bool, List, get_or, ltb, eqb, Ok, Err, Result}
 use Rattle.base_words.specs.Basics.{pick}
 use Rattle.base_conventions.specs.declared.Convention.{Convention}
 use Rattle.sig_types.specs.declared.IntegerKind.{IntegerKind}
@@ -10,9 +12,6 @@ use Rattle.sig_types.specs.Sizes.{lacks_float, max_depth}
 use Rattle.sig_types.specs.Structs.{shape_of, too_large}
 use Rattle.sig_types.specs.Trees.{Tree, Trees, integer, float, struct, none, ◌▸◌, fields_of}
 use Rattle.sig_items.specs.declared.Refusal.{Refusal}
-use Rattle.sig_items.specs.declared.Body.{Body}
-use Rattle.sig_items.specs.declared.IntegerCode.{IntegerCode}
-use Rattle.sig_items.specs.declared.FloatCode.{FloatCode}
 use Rattle.sig_items.specs.Reading.{Reading, fault, got, no, later_reading, choose, and_then, in_body}
 
 -- "a two-byte length", big-endian, after the "one-byte tag"
@@ -20,37 +19,17 @@ abbrev pub length_at : List ℕ → ℕ → ℕ
 length_at s at = get_or s (at + 1) 0 * 256 + get_or s (at + 2) 0
 
 -- "header room, tag, length room", where the tags from `low` to `high` are allowed
-unfoldable pub body_at : List ℕ → ℕ → ℕ → ℕ → ℕ → Body
+unfoldable pub body_at : List ℕ → ℕ → ℕ → ℕ → ℕ → Result ℕ Refusal
 body_at s low high e at =
-    pick (ltb e (at + 3)) (Body.Refused Refusal.Truncated)
-    (pick (ltb (get_or s at 0) low) (Body.Refused Refusal.UnexpectedTag)
-    (pick (ltb high (get_or s at 0)) (Body.Refused Refusal.UnexpectedTag)
-    (pick (ltb e (at + 3 + length_at s at)) (Body.Refused Refusal.Truncated)
-    (Body.To (at + 3 + length_at s at)))))
+    pick (ltb e (at + 3)) (Err Refusal.Truncated)
+    (pick (ltb (get_or s at 0) low) (Err Refusal.UnexpectedTag)
+    (pick (ltb high (get_or s at 0)) (Err Refusal.UnexpectedTag)
+    (pick (ltb e (at + 3 + length_at s at)) (Err Refusal.Truncated)
+    (Ok (at + 3 + length_at s at)))))
 
--- "codes 0 to 8 for i8, u8, i16, u16, i32, u32, i64, u64, pointer"
-unfoldable pub integer_code : ℕ → IntegerCode
-integer_code x =
-    pick (eqb x 0) (IntegerCode.Kind IntegerKind.I8)
-    (pick (eqb x 1) (IntegerCode.Kind IntegerKind.U8)
-    (pick (eqb x 2) (IntegerCode.Kind IntegerKind.I16)
-    (pick (eqb x 3) (IntegerCode.Kind IntegerKind.U16)
-    (pick (eqb x 4) (IntegerCode.Kind IntegerKind.I32)
-    (pick (eqb x 5) (IntegerCode.Kind IntegerKind.U32)
-    (pick (eqb x 6) (IntegerCode.Kind IntegerKind.I64)
-    (pick (eqb x 7) (IntegerCode.Kind IntegerKind.U64)
-    (pick (eqb x 8) (IntegerCode.Kind IntegerKind.Pointer) IntegerCode.Unknown))))))))
-
--- "codes 0 single, 1 double, 2 long double"
-unfoldable pub float_code : ℕ → FloatCode
-float_code x =
-    pick (eqb x 0) (FloatCode.Format FloatFormat.Single)
-    (pick (eqb x 1) (FloatCode.Format FloatFormat.Double)
-    (pick (eqb x 2) (FloatCode.Format FloatFormat.LongDouble) FloatCode.Unknown))
-
-abbrev pub integer_by : IntegerCode → ℕ → ℕ → Reading Tree
-integer_by (IntegerCode.Kind k) at b = got (integer k) b 1
-integer_by IntegerCode.Unknown at b = no (fault Refusal.Malformed at 0)
+abbrev pub integer_by : Result IntegerKind UnknownCode → ℕ → ℕ → Reading Tree
+integer_by (Ok k) at b = got (integer k) b 1
+integer_by (Err _) at b = no (fault Refusal.Malformed at 0)
 
 -- "0x10 whole number, length 1"
 unfoldable pub integer_at : List ℕ → ℕ → ℕ → Reading Tree
@@ -61,11 +40,11 @@ unfoldable pub float_of : Convention → FloatFormat → Bool → ℕ → ℕ �
 float_of c f inside at b = pick (lacks_float c inside f) (no (fault Refusal.FloatNotCarried at 0)) (got (float f) b 1)
 
 -- 5: "long double inside a struct"; 25 is "tested after 5"
-abbrev pub float_by : Convention → FloatCode → Bool → ℕ → ℕ → Reading Tree
-float_by c (FloatCode.Format FloatFormat.Single) inside at b = float_of c FloatFormat.Single inside at b
-float_by c (FloatCode.Format FloatFormat.Double) inside at b = float_of c FloatFormat.Double inside at b
-float_by c (FloatCode.Format FloatFormat.LongDouble) inside at b = pick inside (no (fault Refusal.LongDoubleInStruct at 0)) (float_of c FloatFormat.LongDouble inside at b)
-float_by c FloatCode.Unknown inside at b = no (fault Refusal.Malformed at 0)
+abbrev pub float_by : Convention → Result FloatFormat UnknownCode → Bool → ℕ → ℕ → Reading Tree
+float_by c (Ok FloatFormat.Single) inside at b = float_of c FloatFormat.Single inside at b
+float_by c (Ok FloatFormat.Double) inside at b = float_of c FloatFormat.Double inside at b
+float_by c (Ok FloatFormat.LongDouble) inside at b = pick inside (no (fault Refusal.LongDoubleInStruct at 0)) (float_of c FloatFormat.LongDouble inside at b)
+float_by c (Err _) inside at b = no (fault Refusal.Malformed at 0)
 
 -- "0x11 float, length 1"
 unfoldable pub float_at : Convention → List ℕ → Bool → ℕ → ℕ → Reading Tree

@@ -1,8 +1,7 @@
 -- What a reader finds, and how one reading follows another: the first refusal is the answer. Assumes nothing.
-use Rattle.std.specs.Prelude.{ℕ, ◌+◌, Bool, true, false}
+use Rattle.std.specs.Prelude.{ℕ, ◌+◌, Bool, true, false, Ok, Err, Result}
 use Rattle.sig_items.specs.declared.Refusal.{Refusal}
 use Rattle.sig_items.specs.declared.Fault.{Fault}
-use Rattle.sig_items.specs.declared.Body.{Body}
 
 -- "A refusal is a number and a place", and "how many headers had passed header room, tag and length room when it stopped"
 abbrev pub fault : Refusal → ℕ → ℕ → Fault
@@ -34,6 +33,6 @@ and_then (got x next n) g = g x next n
 and_then (no f) g = no f
 
 -- the body of an item at `at`; a header that is refused has not passed
-abbrev pub in_body : {A : Type 0} → Body → ℕ → (ℕ → Reading A) → Reading A
-in_body (Body.To b) at f = f b
-in_body (Body.Refused r) at f = no (fault r at 0)
+abbrev pub in_body : {A : Type 0} → Result ℕ Refusal → ℕ → (ℕ → Reading A) → Reading A
+in_body (Ok b) at f = f b
+in_body (Err r) at f = no (fault r at 0)

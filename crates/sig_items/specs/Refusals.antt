@@ -1,8 +1,8 @@
 -- Document 01's numbers for the refusals of a signature, "When the bridge says no". Assumes nothing.
-use Rattle.std.specs.Prelude.{ℕ}
+use Rattle.sig_items.specs.declared.Item.{Item}
+use Rattle.sig_items.specs.declared.Fault.{Fault}
+use Rattle.std.specs.Prelude.{ℕ, Ok, Err, Result}
 use Rattle.sig_items.specs.declared.Refusal.{Refusal}
-use Rattle.sig_items.specs.declared.Body.{Body}
-use Rattle.sig_items.specs.declared.ItemRead.{ItemRead}
 use Rattle.sig_items.specs.Reading.{Reading, got, no}
 
 abbrev pub refusal_number : Refusal → ℕ
@@ -35,10 +35,10 @@ abbrev pub reading_number : {A : Type 0} → Reading A → ℕ
 reading_number (got x next n) = 0
 reading_number (no f) = refusal_number f.reason
 
-abbrev pub body_number : Body → ℕ
-body_number (Body.To b) = 0
-body_number (Body.Refused r) = refusal_number r
+abbrev pub body_number : Result ℕ Refusal → ℕ
+body_number (Ok b) = 0
+body_number (Err r) = refusal_number r
 
-abbrev pub item_number : ItemRead → ℕ
-item_number (ItemRead.Item t next n) = 0
-item_number (ItemRead.Refused f) = refusal_number f.reason
+abbrev pub item_number : Result Item Fault → ℕ
+item_number (Ok i) = 0
+item_number (Err f) = refusal_number f.reason

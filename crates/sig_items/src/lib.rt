@@ -5,10 +5,10 @@ ghost use Rattle.std.specs.Prelude.{◌≡◌, ◌+◌, ◌^◌, ◌<◌};
 ghost use Rattle.sig_items.specs.Refusals.{refusal_number};
 ghost use Rattle.sig_items.specs.Reading.{later};
 
-use sig_types::{FloatFormat, IntegerKind, ValueType};
+use sig_types::ValueType;
 
-// Why a signature is refused, by its reading or, the last, by its plan; `refusal_number` gives the papers' number.
-#[derive(Clone, Copy)]
+// Why a signature is refused, by its reading or, the last, by its plan; its number is the papers'.
+#[derive(Clone, Copy, Debug, PartialEq, Eq)]
 pub enum Refusal {
     TooLong,
     Truncated,
@@ -23,26 +23,28 @@ pub enum Refusal {
     UnclearPlace,
 }
 
-pub fn refusal_number(r: Refusal) -> u64
-    ensures { result ≡ refusal_number r }
-{
-    match r {
-        Refusal::TooLong => 1,
-        Refusal::Truncated => 2,
-        Refusal::UnexpectedTag => 3,
-        Refusal::Malformed => 4,
-        Refusal::LongDoubleInStruct => 5,
-        Refusal::TooDeep => 6,
-        Refusal::TooManyArguments => 7,
-        Refusal::StructTooLarge => 8,
-        Refusal::TrailingBytes => 9,
-        Refusal::FloatNotCarried => 25,
-        Refusal::UnclearPlace => 29,
+impl From<Refusal> for u64 {
+    ghost from_gives = { λ r number. number ≡ refusal_number r };
+
+    fn from(r: Refusal) -> u64 {
+        match r {
+            Refusal::TooLong => 1,
+            Refusal::Truncated => 2,
+            Refusal::UnexpectedTag => 3,
+            Refusal::Malformed => 4,
+            Refusal::LongDoubleInStruct => 5,
+            Refusal::TooDeep => 6,
+            Refusal::TooManyArguments => 7,
+            Refusal::StructTooLarge => 8,
+            Refusal::TrailingBytes => 9,
+            Refusal::FloatNotCarried => 25,
+            Refusal::UnclearPlace => 29,
+        }
     }
 }
 
 // A refused reading: why and where, and how many headers had passed header room, tag and length room when it stopped.
-#[derive(Clone, Copy)]
+#[derive(Clone, Copy, Debug, PartialEq, Eq)]
 pub struct Fault {
     pub reason: Refusal,
     pub place: usize,
@@ -54,40 +56,16 @@ pub fn later_by(earlier: usize, f: Fault) -> Fault
     requires { earlier + f.passed < 2 ^ 32 }
     ensures { result ≡ later earlier f }
 {
-    let reason = f.reason;
     Fault {
-        reason,
-        place: f.place,
         passed: earlier + f.passed,
+        ..f
     }
 }
 
-// An item's header: where its body ends, or why it is refused.
-#[derive(Clone, Copy)]
-pub enum Body {
-    To(usize),
-    Refused(Refusal),
-}
-
-// A type item: its type, where the next item starts and how many items it is with those in it; or its fault.
-#[derive(Clone, Copy)]
-pub enum ItemRead {
-    Item {
-        ty: ValueType,
-        next: usize,
-        items: usize,
-    },
-    Refused(Fault),
-}
-
-#[derive(Clone, Copy)]
-pub enum IntegerCode {
-    Kind(IntegerKind),
-    Unknown,
-}
-
-#[derive(Clone, Copy)]
-pub enum FloatCode {
-    Format(FloatFormat),
-    Unknown,
+// A type item: its type, where the next item starts and how many items it is with those in it.
+#[derive(Clone, Copy, Debug, PartialEq, Eq)]
+pub struct Item {
+    pub ty: ValueType,
+    pub next: usize,
+    pub items: usize,
 }

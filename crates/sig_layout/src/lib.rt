@@ -6,7 +6,7 @@ ghost use Rattle.sig_types.specs.Sizes.{size_of, align_of, Sized};
 ghost use Rattle.sig_types.specs.Structs.{no_fields, with_field, equivalent_after, closed};
 
 use base_conventions::Convention;
-use sig_types::{Closed, Equivalent, Fields, Shape, ValueType};
+use sig_types::{Equivalent, Fields, Shape, ValueType};
 
 // The alignment of a type that has this size: all but structs are aligned by their size, which is looked up once.
 fn align_of(c: Convention, t: ValueType, size: usize) -> usize
@@ -14,9 +14,8 @@ fn align_of(c: Convention, t: ValueType, size: usize) -> usize
     ensures { result ≡ align_of c t }
 {
     match t {
-        ValueType::Integer(_) => size,
-        ValueType::Float(_) => size,
-        ValueType::Struct(s) => s.align as usize,
+        ValueType::Integer(_) | ValueType::Float(_) => size,
+        ValueType::Struct(s) => usize::from(s.align),
     }
 }
 
@@ -46,37 +45,29 @@ pub fn with_field(l: Fields, c: Convention, t: ValueType) -> Fields
     requires { (l.end < 2 ^ 32) × Sized c t }
     ensures { result ≡ with_field c l t }
 {
-    let end = l.end;
-    let align = l.align;
-    let empty = l.empty;
     let size = sig_types::size_of(c, t);
     let a = align_of(c, t, size);
-    let start = base_words::round_up(end, a);
-    let most = base_words::larger(align, a);
-    let equivalent = equivalent_after(empty, t);
+    let start = base_words::round_up(l.end, a);
     Fields {
         end: start + size,
-        align: most,
+        align: l.align.max(a),
         empty: false,
-        equivalent,
+        equivalent: equivalent_after(l.empty, t),
     }
 }
 
 // The struct of these fields, unless it is too large.
-pub fn close(l: Fields) -> Closed
+pub fn close(l: Fields) -> Option<Shape>
     requires { (l.end < 2 ^ 32) × (0 < l.align) × (l.align ≤ 16) }
     ensures { result ≡ closed l }
 {
-    let end = l.end;
-    let align = l.align;
-    let equivalent = l.equivalent;
-    let size = base_words::round_up(end, align);
+    let size = base_words::round_up(l.end, l.align);
     if sig_types::MAX_SIZE < size {
-        return Closed::TooLarge;
+        return None;
     }
-    Closed::Shape(Shape {
+    Some(Shape {
         size: size as u16,
-        align: align as u8,
-        equivalent,
+        align: l.align as u8,
+        equivalent: l.equivalent,
     })
 }

@@ -1,6 +1,7 @@
 -- Stepping through an accepted signature gives its arguments in order: past two items and the ellipsis, and into the last, stands the
 -- first argument's item, and the item after k others is the k-th argument's, of its type and at its place in the encoding.
 -- Assumes nothing.
+use Rattle.std.proofs.Common.{Ok}
 use Prim.Native.Nat.{ℕ, zero, suc, ◌+◌, ◌≤◌, ◌<◌}
 use mathlib.Core.Path.{◌≡◌, refl, sym, ap, ◌∙◌}
 use mathlib.Core.Bool.{Bool, true, false}
@@ -14,26 +15,24 @@ use Rattle.base_words.proofs.Tests.{by-pick}
 use Rattle.base_conventions.specs.declared.Convention.{Convention}
 use Rattle.sig_types.specs.Trees.{Tree, Trees, none, ◌▸◌, type_of, count_of}
 use Rattle.sig_items.specs.declared.Refusal.{Refusal}
-use Rattle.sig_items.specs.declared.Body.{Body}
 use Rattle.sig_items.specs.Reading.{fault, got, no, choose, in_body}
 use Rattle.sig_items.specs.Read.{length_at, body_at, sequence, item_at}
 use Rattle.sig_items.specs.Encode.{encode_tree, encode_trees}
 use Rattle.sig_items.proofs.Laws.{body-to}
 use Rattle.sig_items.proofs.Sound.{by-choose, by-then, by_next, Got, Framed, by-body, item-read, got-self, got-map}
 use Rattle.sig_signatures.specs.Limits.{max_length, max_arguments}
-use Rattle.sig_signatures.specs.Signature.{Result, Signature}
+use Rattle.sig_signatures.specs.Signature.{ResultTree, Signature}
 use Rattle.sig_signatures.specs.Read.{convention_at, result_at, ellipsis_at, arguments_in, arguments_at, after_ellipsis, after_result, after_convention, signature_of}
 use Rattle.sig_signatures.specs.Encode.{encode_result, ellipsis_item}
 use Rattle.sig_signatures.proofs.Sound.{ConventionSound, convention-sound, ResultSound, result-sound, ArgumentsSound, arguments_sound, ellipsis-read}
-use Rattle.sig_reader.specs.declared.ArgumentRead.{ArgumentRead}
 use Rattle.sig_stepping.specs.Step.{body_in, body_start, body_end, type_in}
-use Rattle.sig_reader.specs.Argument.{argument_in, arguments_place, past_ellipsis, arguments_start, stepped_to}
+use Rattle.sig_reader.specs.Argument.{argument_in, arguments_place, past_ellipsis, arguments_start, stepped_to, argument_found}
 use Rattle.sig_stepping.proofs.Laws.{end-within, body-here, start-found, end-found}
 
 -- one argument of types in order
 
 module _ (c : Convention) (start : ℕ) where
-  argument-last : (ts : Trees) (t : Tree) → argument_in c start (count_of ts) (ts ▸ t) ≡ ArgumentRead.Argument (type_of c t) (start + length (encode_trees ts))
+  argument-last : (ts : Trees) (t : Tree) → argument_in c start (count_of ts) (ts ▸ t) ≡ argument_found (type_of c t) (start + length (encode_trees ts))
   unfolding argument_in
   argument-last ts t = rw (eq-eqb (count_of ts) (count_of ts) refl)
 
@@ -71,8 +70,8 @@ module _ (c : Convention) (s : List ℕ) (e start : ℕ) (short : length s ≤ m
       where
         go : (k : ℕ) → count_of ts + k < count_of us → stepped_to c s at e k ≡ argument_in c start (count_of ts + k) us
         go zero h =
-            let found : stepped_to c s at e 0 ≡ ArgumentRead.Argument (type_of c t) at = rw (type-is at, read) in
-            found ∙ ap (ArgumentRead.Argument (type_of c t)) place ∙ sym (argument-last c start ts t) ∙ sym (more.keeps (count_of ts) (omega arith))
+            let found : stepped_to c s at e 0 ≡ argument_found (type_of c t) at = rw (type-is at, read) in
+            found ∙ ap (argument_found (type_of c t)) place ∙ sym (argument-last c start ts t) ∙ sym (more.keeps (count_of ts) (omega arith))
             ∙ ap (λ (i : ℕ). argument_in c start i us) (omega arith)
         go (suc k) h =
             let onward : stepped_to c s at e (suc k) ≡ stepped_to c s after e k = rw (type-is at, read) in
@@ -88,10 +87,10 @@ module _ (c : Convention) (s : List ℕ) (e start : ℕ) (short : length s ≤ m
       (λ _. stepped-end ts at at n)
 
 -- a header with one tag is one with any tag
-any-tag : (s : List ℕ) → length s ≤ max_length → (tag at b : ℕ) → tag ≤ 255 → Framed s tag tag (length s) at b → Body.To b ≡ body_in s at (length s)
+any-tag : (s : List ℕ) → length s ≤ max_length → (tag at b : ℕ) → tag ≤ 255 → Framed s tag tag (length s) at b → Ok b ≡ body_in s at (length s)
 any-tag s short tag at b small framed =
-    body-here s at (length s) short (length s) (end-within s (length s) (omega arith)) (Body.To b)
-    (ap Body.To framed.ends ∙ sym (body-to s 0x00 0xff (length s) at (omega arith) (omega arith) (omega arith) (length_at s at) refl (omega arith)))
+    body-here s at (length s) short (length s) (end-within s (length s) (omega arith)) (Ok b)
+    (ap Ok framed.ends ∙ sym (body-to s 0x00 0xff (length s) at (omega arith) (omega arith) (omega arith) (length_at s at) refl (omega arith)))
 
 ellipsis-passed : (s : List ℕ) → length s ≤ max_length → (at : ℕ) → Got (λ v next n. next ≡ past_ellipsis s at) (ellipsis_at s at)
 unfolding ellipsis_at past_ellipsis
@@ -101,7 +100,7 @@ ellipsis-passed s short at = go (eqb (get_or s at 0) 0x04)
         (choose tag (λ _. in_body (body_at s 0x04 0x04 (length s) at) at (λ b. pick (eqb b (at + 3)) (got true b 1) (no (fault Refusal.Malformed at 0)))) (λ _. got false at 0))
     go true = by-body (λ v next n. next ≡ body_end s at (length s)) s 0x04 0x04 (length s) at _ (λ b framed.
         by-pick (Got (λ v next n. next ≡ body_end s at (length s))) (eqb b (at + 3)) _ _
-        (λ _. end-found s at (length s) (Body.To b) (any-tag s short 0x04 at b (omega arith) framed) b refl) (λ _. tt))
+        (λ _. end-found s at (length s) (Ok b) (any-tag s short 0x04 at b (omega arith) framed) b refl) (λ _. tt))
     go false = refl
 
 -- of an accepted signature: the first argument's place, by stepping and by the encoder, and what is read from there
@@ -112,7 +111,7 @@ pub record Placed (s : List ℕ) (g : Signature) : Type 0 where
   pub count : ℕ
   pub read : arguments_in g.convention s (arguments_place g.result g.ellipsis) (length s) ≡ got g.arguments next count
 
-module _ (s : List ℕ) (short : length s ≤ max_length) (c : Convention) (at₁ n₁ : ℕ) (first : ConventionSound s c at₁ n₁) (r : Result) (at₂ n₂ : ℕ)
+module _ (s : List ℕ) (short : length s ≤ max_length) (c : Convention) (at₁ n₁ : ℕ) (first : ConventionSound s c at₁ n₁) (r : ResultTree) (at₂ n₂ : ℕ)
     (second : ResultSound c s at₁ r at₂ n₂) (v : Bool) (at₃ n₃ : ℕ) (mark : ellipsis_at s at₂ ≡ got v at₃ n₃) (ts : Trees) (next m : ℕ)
     (third : ArgumentsSound c s at₃ ts next m) (last : length s ≤ next) where
   here : at₁ ≡ 4
@@ -126,17 +125,17 @@ module _ (s : List ℕ) (short : length s ≤ max_length) (c : Convention) (at�
   ends = let f = third.framed.inside in let i = third.inside in omega arith
 
   past_first : 4 ≡ body_end s 0 (length s)
-  past_first = end-found s 0 (length s) (Body.To 4) (any-tag s short 0x01 0 4 (omega arith) (rw here at first.framed)) 4 refl
+  past_first = end-found s 0 (length s) (Ok 4) (any-tag s short 0x01 0 4 (omega arith) (rw here at first.framed)) 4 refl
 
   past-second : at₂ ≡ body_end s 4 (length s)
-  past-second = end-found s 4 (length s) (Body.To at₂)
+  past-second = end-found s 4 (length s) (Ok at₂)
       (any-tag s short 0x02 4 at₂ (omega arith) (rw here at second.framed)) at₂ refl
 
   past-mark : at₃ ≡ past_ellipsis s at₂
   past-mark = rw mark at (ellipsis-passed s short at₂)
 
   into-last : at₃ + 3 ≡ body_start s at₃ (length s)
-  into-last = start-found s at₃ (length s) (Body.To third.end) (any-tag s short 0x03 at₃ third.end (omega arith) third.framed) third.end refl
+  into-last = start-found s at₃ (length s) (Ok third.end) (any-tag s short 0x03 at₃ third.end (omega arith) third.framed) third.end refl
 
   started : arguments_start s ≡ arguments_place r v
   unfolding arguments_start

@@ -13,8 +13,8 @@ ghost use Rattle.sig_reader.specs.Argument.{argument_of, item_in, unclear_fault}
 ghost use Rattle.sig_reader.specs.Helpers.{argument_with, noted_as};
 
 use base_conventions::Convention;
-use sig_items::{Fault, ItemRead, Refusal};
-use sig_signatures::{HeadRead, MAX_ARGUMENTS};
+use sig_items::{Fault, Item, Refusal};
+use sig_signatures::{Head, MAX_ARGUMENTS};
 use sig_stepping::Header;
 use sig_types::ValueType;
 
@@ -26,12 +26,11 @@ pub struct Reader<'a> {
     pub end: usize,
 }
 
-// An argument's type and the place of its item; or none has that number; or the signature is refused.
-#[derive(Clone, Copy)]
-pub enum ArgumentRead {
-    Argument { ty: ValueType, place: usize },
-    Missing,
-    Refused(Fault),
+// An argument's type and the place of its item.
+#[derive(Clone, Copy, Debug, PartialEq, Eq)]
+pub struct ArgumentItem {
+    pub ty: ValueType,
+    pub place: usize,
 }
 
 impl<'a> Reader<'a> {
@@ -54,7 +53,7 @@ impl<'a> Reader<'a> {
     }
 
     // The item's header.
-    pub fn header(self) -> Header
+    pub fn header(self) -> Result<Header, Refusal>
         ensures { result ≡ header_in self.entry.signature.now self.entry.at self.entry.end }
     {
         sig_stepping::header_in(self.signature, self.at, self.end)
@@ -64,11 +63,9 @@ impl<'a> Reader<'a> {
     pub fn skip(self) -> Reader<'a>
         ensures { result ≡ skipped self.entry }
     {
-        let at = sig_stepping::body_end(self.signature, self.at, self.end);
         Reader {
-            signature: self.signature,
-            at,
-            end: self.end,
+            at: sig_stepping::body_end(self.signature, self.at, self.end),
+            ..self
         }
     }
 
@@ -76,37 +73,34 @@ impl<'a> Reader<'a> {
     pub fn enter(self) -> Reader<'a>
         ensures { result ≡ reader_entered self.entry }
     {
-        let at = sig_stepping::body_start(self.signature, self.at, self.end);
-        let end = sig_stepping::body_end(self.signature, self.at, self.end);
         Reader {
-            signature: self.signature,
-            at,
-            end,
+            at: sig_stepping::body_start(self.signature, self.at, self.end),
+            end: sig_stepping::body_end(self.signature, self.at, self.end),
+            ..self
         }
     }
 
     // The item as a type item, with its type.
-    pub fn type_item(self, c: Convention) -> ItemRead
+    pub fn type_item(self, c: Convention) -> Result<Item, Fault>
         ensures { result ≡ item_answer c (type_in c self.entry.signature.now self.entry.at self.entry.end) }
     {
         sig_stepping::type_in(self.signature, self.at, self.end, c)
     }
 
     // The same, and the reader moves past it; after a refusal it stays where it is.
-    pub fn next_type<'s>(&'s mut self, c: Convention) -> ItemRead
+    pub fn next_type<'s>(&'s mut self, c: Convention) -> Result<Item, Fault>
         ensures { (result ≡ item_answer c (type_in c self.old.signature.now self.old.at self.old.end))
             × (self.new ≡ advanced c self.old) }
     {
         let at = self.at;
         let item = sig_stepping::type_in(self.signature, at, self.end, c);
-        let next = sig_stepping::place_after(item, at);
-        self.at = next;
+        self.at = sig_stepping::place_after(item, at);
         item
     }
 }
 
 // The type item at `at`, by a reader of the part up to `end`.
-fn type_of_part(s: &[u8], at: usize, end: usize, c: Convention) -> ItemRead
+fn type_of_part(s: &[u8], at: usize, end: usize, c: Convention) -> Result<Item, Fault>
     ensures { result ≡ item_answer c (type_in c s.now at end) }
 {
     Reader {
@@ -119,97 +113,75 @@ fn type_of_part(s: &[u8], at: usize, end: usize, c: Convention) -> ItemRead
 
 // What is known of argument number `index` after argument number `count`, of this type and at this place.
 fn noted(
-    found: ArgumentRead,
+    found: Option<ArgumentItem>,
     index: usize,
     count: usize,
     ty: ValueType,
     place: usize,
-) -> ArgumentRead
+) -> Option<ArgumentItem>
     ensures { result ≡ noted_as found index count ty place }
 {
     if index == count {
-        return ArgumentRead::Argument { ty, place };
+        return Some(ArgumentItem { ty, place });
     }
     found
 }
 
-// The same from the arguments on, which stand from `at` to `end`; `earlier` items came before theirs. All are read: a refused signature has no
-// arguments.
-fn argument_from(
-    s: &[u8],
-    c: Convention,
-    at: usize,
-    end: usize,
-    earlier: usize,
-    index: usize,
-) -> ArgumentRead
-    requires { (at ≤ end) × (end ≤ length s.now) × (length s.now ≤ max_length) × (earlier ≤ 2 ^ 16) }
-    ensures { result ≡ argument_with c at earlier (length s.now) index (arguments_in c s.now at end) }
+// The same from the arguments on, whose head was read. All are read: a refused signature has no arguments; and none may have that number.
+fn argument_from(s: &[u8], head: Head, index: usize) -> Result<Option<ArgumentItem>, Fault>
+    requires { (head.at ≤ head.end) × (head.end ≤ length s.now) × (length s.now ≤ max_length) × (head.earlier ≤ 2 ^ 16) }
+    ensures { result ≡ argument_with head.convention head.at head.earlier (length s.now) index (arguments_in head.convention s.now head.at head.end) }
 {
-    let mut found = ArgumentRead::Missing;
+    let mut found = None;
     let mut count: usize = 0;
-    let mut next = at;
+    let mut next = head.at;
     let mut items: usize = 1;
-    while next < end {
+    while next < head.end {
         if count == MAX_ARGUMENTS {
-            return ArgumentRead::Refused(Fault {
+            return Err(Fault {
                 reason: Refusal::TooManyArguments,
                 place: next,
-                passed: earlier + items,
+                passed: head.earlier + items,
             });
         }
-        match type_of_part(s, next, end, c) {
-            ItemRead::Item {
-                ty,
-                next: after,
-                items: more,
-            } => {
-                found = noted(found, index, count, ty, next);
-                count = count + 1;
-                next = after;
-                items = items + more;
+        match type_of_part(s, next, head.end, head.convention) {
+            Ok(item) => {
+                found = noted(found, index, count, item.ty, next);
+                count += 1;
+                next = item.next;
+                items += item.items;
             }
-            ItemRead::Refused(fault) => {
-                return ArgumentRead::Refused(sig_items::later_by(earlier + items, fault));
+            Err(fault) => {
+                return Err(sig_items::later_by(head.earlier + items, fault));
             }
         }
     }
-    let counted = earlier + items;
+    let counted = head.earlier + items;
     if next < s.len() {
-        return ArgumentRead::Refused(Fault {
+        return Err(Fault {
             reason: Refusal::TrailingBytes,
             place: next,
             passed: counted,
         });
     }
-    found
+    Ok(found)
 }
 
-// Argument number `index` of any bytes, counted from 0: its type, and where its item stands.
-pub fn argument_at(s: &[u8], index: usize) -> ArgumentRead
+// Argument number `index` of any bytes, counted from 0: its type, and where its item stands; or none has that number.
+pub fn argument_at(s: &[u8], index: usize) -> Result<Option<ArgumentItem>, Fault>
     ensures { result ≡ argument_of index (signature_of s.now) }
 {
-    match sig_head::read_head(s) {
-        HeadRead::Refused(fault) => ArgumentRead::Refused(fault),
-        HeadRead::Head {
-            convention,
-            result,
-            ellipsis,
-            at,
-            end,
-            earlier,
-        } => argument_from(s, convention, at, end, earlier, index),
-    }
+    let head = sig_head::read_head(s)?;
+    argument_from(s, head, index)
 }
 
 // The place of an argument's item.
-fn item_in(a: ArgumentRead) -> usize
+fn item_in(a: Result<Option<ArgumentItem>, Fault>) -> usize
     ensures { result ≡ item_in a }
 {
     match a {
-        ArgumentRead::Argument { ty, place } => place,
-        ArgumentRead::Missing => 0,
-        ArgumentRead::Refused(_) => 0,
+        Ok(Some(argument)) => argument.place,
+        Ok(None) | Err(_) => 0,
     }
 }
 
@@ -217,8 +189,7 @@ fn item_in(a: ArgumentRead) -> usize
 pub fn unclear_fault(s: &[u8], index: usize) -> Fault
     ensures { result ≡ unclear_fault index (signature_of s.now) }
 {
-    let a = argument_at(s, index);
-    let place = item_in(a);
+    let place = item_in(argument_at(s, index));
     Fault {
         reason: Refusal::UnclearPlace,
         place,

@@ -1,4 +1,5 @@
 -- Every encoding of a signature within the limits is read, and gives the signature back. Assumes nothing.
+use Rattle.std.proofs.Common.{Ok}
 use Prim.Native.Nat.{ℕ, ◌+◌, ◌-◌, ◌≤◌}
 use mathlib.Core.Path.{◌≡◌, refl, sym, ap, ◌∙◌}
 use mathlib.Core.Bool.{Bool, true, false}
@@ -17,11 +18,10 @@ use Rattle.sig_items.proofs.Levels.{within-left, all-within-left}
 use Rattle.sig_items.proofs.Has.{Has, has_move, has_left, has_right, has_all, item-tag, item-body, item-byte, length-item}
 use Rattle.sig_items.proofs.Trees.{tree-long}
 use Rattle.sig_items.proofs.Complete.{header-reads, tree-reads, trees-read}
-use Rattle.base_conventions.specs.declared.ConventionCode.{ConventionCode}
 use Rattle.base_conventions.specs.Numbers.{convention_code, code_of}
 use Rattle.base_conventions.proofs.Laws.{code-back}
 use Rattle.sig_types.specs.Sizes.{max_depth}
-use Rattle.sig_signatures.specs.Signature.{Result, nothing, value, Signature}
+use Rattle.sig_signatures.specs.Signature.{ResultTree, nothing, value, Signature}
 use Rattle.sig_signatures.specs.Limits.{max_length, max_arguments}
 use Rattle.sig_signatures.specs.Read.{convention_at, result_in, result_at, ellipsis_at, arguments_in, arguments_at, after_ellipsis, after_result, after_convention, signature_of}
 use Rattle.sig_signatures.specs.Encode.{encode_result, ellipsis_item, encode, result_items, ellipsis_items, signature_items, ResultWithin, SignatureWithin}
@@ -32,7 +32,7 @@ module _ (s : List ℕ) where
   convention-reads : (c : Convention) → Has s 0 (item 0x01 (code_of c ∷ [])) → 4 ≤ length s → convention_at s ≡ got c 4 1
   convention-reads c h room =
       let to = header-reads c s 0x01 0x01 0x01 (code_of c ∷ []) (length s) 0 4 (omega arith) (omega arith) h refl room in
-      convention-by s 4 to refl (ConventionCode.Known c)
+      convention-by s 4 to refl (Ok c)
       (sym (code-back c) ∙ ap convention_code (sym (item-byte s 0x01 (code_of c) 0 h)))
 
   module _ (c : Convention) where
@@ -44,13 +44,13 @@ module _ (s : List ℕ) where
         let most : b ≤ b = omega arith in
         rw (ne_eqb at b differs, tree-reads c s t max_depth b at b (within-left c t w) h q most, le-ltb b b most)
 
-    result-in-reads : (r : Result) (at b : ℕ) → ResultWithin c r → Has s at (encode_result r) → b ≡ at + length (encode_result r) →
+    result-in-reads : (r : ResultTree) (at b : ℕ) → ResultWithin c r → Has s at (encode_result r) → b ≡ at + length (encode_result r) →
         result_in c s at b ≡ got r b (result_items r + 1)
     unfolding encode_result ResultWithin result_items
     result-in-reads nothing at b w h q = result-none c s at b (omega arith)
     result-in-reads (value t) at b w h q = let same : 1 + items_of t ≡ items_of t + 1 = omega arith in value-reads t at b w h q ∙ ap (got (value t) b) same
 
-    result-reads : (r : Result) (at next : ℕ) → ResultWithin c r → Has s at (item 0x02 (encode_result r)) → next ≡ at + 3 + length (encode_result r) →
+    result-reads : (r : ResultTree) (at next : ℕ) → ResultWithin c r → Has s at (item 0x02 (encode_result r)) → next ≡ at + 3 + length (encode_result r) →
         next ≤ length s → result_at c s at ≡ got r next (result_items r + 1)
     result-reads r at next w h q room =
         let to = header-reads c s 0x02 0x02 0x02 (encode_result r) (length s) at next (omega arith) (omega arith) h q room in

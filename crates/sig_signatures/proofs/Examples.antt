@@ -1,5 +1,6 @@
 -- Worked readings, computed by the definitions: document 01's example, the empty signature, the depth at its limit and one past it, an ellipsis where it may stand and
 -- where not. Assumes nothing.
+use Rattle.sig_types.specs.Codes.{integer_code, float_code}
 use Prim.Native.Nat.{ℕ, zero, suc}
 use mathlib.Core.Path.{◌≡◌, refl}
 use mathlib.Core.Bool.{true, false}
@@ -13,7 +14,7 @@ use Rattle.sig_types.specs.Trees.{Tree, Trees, integer, float, struct, none, ◌
 use Rattle.sig_items.specs.Refusals.{refusal_number}
 use Rattle.sig_items.specs.Reading.{Reading, got, no}
 use Rattle.sig_types.specs.Structs.{with_field, shape_of}
-use Rattle.sig_items.specs.Read.{body_at, integer_code, float_code, integer_at, float_of, float_at, sequence, sized_at, contents_at, item_by, struct_at, item_at}
+use Rattle.sig_items.specs.Read.{body_at, integer_at, float_of, float_at, sequence, sized_at, contents_at, item_by, struct_at, item_at}
 use Rattle.sig_items.specs.Encode.{item, encode_tree}
 use Rattle.sig_signatures.specs.Signature.{nothing, Signature}
 use Rattle.sig_signatures.specs.Read.{convention_at, result_in, result_at, ellipsis_at, arguments_in, arguments_at, after_ellipsis, after_result, after_convention, signature_of}

@@ -1,4 +1,8 @@
 -- How far the reading of a signature goes: the headers that it counts lead from its first byte to where it ends or stops. Assumes nothing.
+use Rattle.sig_signatures.specs.declared.EllipsisItem.{EllipsisItem}
+use Rattle.sig_signatures.specs.declared.ResultItem.{ResultItem}
+use Rattle.base_conventions.specs.declared.UnknownConvention.{UnknownConvention}
+use Rattle.std.proofs.Common.{Ok, Err, Result}
 use Prim.Native.Nat.{ℕ, ◌+◌, ◌*◌, ◌≤◌}
 use mathlib.Core.Path.{◌≡◌, refl, sym, ◌∙◌}
 use mathlib.Core.Logic.{inl}
@@ -18,12 +22,9 @@ use Rattle.sig_items.specs.Read.{item_at}
 use Rattle.sig_items.specs.HowFar.{place_of_header, HeadersPassed, HowFar}
 use Rattle.sig_items.proofs.Sound.{by-choose, Framed}
 use Rattle.sig_items.proofs.HowFar.{Goes, walked-over, walked-into, passed_none, passed-one, framed-here, stops, stops-here, goes_after, goes-within, fills-goes, goes_then, goes-body, sequence-goes, item-goes, walked-ascends, far-before, far-third, far-unique}
-use Rattle.base_conventions.specs.declared.ConventionCode.{ConventionCode}
 use Rattle.base_conventions.specs.Numbers.{convention_code}
 use Rattle.sig_types.specs.Sizes.{max_depth}
-use Rattle.sig_signatures.specs.declared.ResultRead.{ResultRead}
-use Rattle.sig_signatures.specs.declared.EllipsisRead.{EllipsisRead}
-use Rattle.sig_signatures.specs.Signature.{Result, Signature}
+use Rattle.sig_signatures.specs.Signature.{ResultTree, Signature}
 use Rattle.sig_signatures.specs.Limits.{max_length, max_arguments}
 use Rattle.sig_signatures.specs.Read.{convention_by, convention_at, result_in, result_at, ellipsis_at, arguments_in, arguments_at, after_ellipsis, after_result, after_convention, signature_of}
 use Rattle.sig_signatures.specs.Answer.{result_answer, ellipsis_answer}
@@ -37,13 +38,13 @@ module _ (s : List ℕ) where
       by-pick (Goes s (length s) 0) (eqb b 4) _ _ (λ q. code b framed (eqb-true b 4 q) (convention_code (get_or s 3 0)))
       (λ _. stops-here s (length s) 0 Refusal.Malformed refl (omega arith)))
     where
-      code : (b : ℕ) → Framed s 0x01 0x01 (length s) 0 b → b ≡ 4 → (x : ConventionCode) → Goes s (length s) 0 (convention_by x)
-      code b framed q (ConventionCode.Known c) =
+      code : (b : ℕ) → Framed s 0x01 0x01 (length s) 0 b → b ≡ 4 → (x : Result Convention UnknownConvention) → Goes s (length s) 0 (convention_by x)
+      code b framed q (Ok c) =
           let ends = framed.ends in
           let inside = framed.inside in
           let tag : get_or s 0 0 ≡ 0x01 = omega (arith, framed.least, framed.most) in
           (walked-over s 0 4 (rw tag) (omega arith), omega arith, passed-one s 0x01 0x01 (length s) 0 b (inl (omega arith, omega arith)) framed)
-      code b framed q ConventionCode.Unknown = stops-here s (length s) 0 Refusal.Malformed refl (omega arith)
+      code b framed q (Err _) = stops-here s (length s) 0 Refusal.Malformed refl (omega arith)
 
   module _ (c : Convention) (at : ℕ) where
     result-in-goes : (b : ℕ) → Framed s 0x02 0x02 (length s) at b → Goes s b at (result_in c s (at + 3) b)
@@ -85,14 +86,14 @@ module _ (s : List ℕ) where
       (λ _. (refl, room, passed_none s (length s) at))
 
   module _ (c : Convention) where
-    after-ellipsis-goes : (r : Result) (v : Bool) (at n : ℕ) → place_of_header s 0 n ≡ at → at ≤ length s → HeadersPassed s (length s) 0 n → Goes s (length s) 0 (after_ellipsis s c r v at n)
+    after-ellipsis-goes : (r : ResultTree) (v : Bool) (at n : ℕ) → place_of_header s 0 n ≡ at → at ≤ length s → HeadersPassed s (length s) 0 n → Goes s (length s) 0 (after_ellipsis s c r v at n)
     unfolding after_ellipsis
     after-ellipsis-goes r v at n w h p =
         goes_then s (length s) 0 (Goes s (length s) 0) (later_reading n (arguments_at c s at)) _
         (goes_after s (length s) 0 n at (arguments_at c s at) w p (arguments-goes c at h)) (λ f k. k)
         (λ ts next m v k q. by-pick (Goes s (length s) 0) (ltb next (length s)) _ _ (λ _. stops s (length s) 0 Refusal.TrailingBytes next m refl v k q) (λ _. (v, k, q)))
 
-    after-result-goes : (r : Result) (at n : ℕ) → place_of_header s 0 n ≡ at → at ≤ length s → HeadersPassed s (length s) 0 n → Goes s (length s) 0 (after_result s c r at n)
+    after-result-goes : (r : ResultTree) (at n : ℕ) → place_of_header s 0 n ≡ at → at ≤ length s → HeadersPassed s (length s) 0 n → Goes s (length s) 0 (after_result s c r at n)
     unfolding after_result
     after-result-goes r at n w h p =
         goes_then s (length s) 0 (Goes s (length s) 0) (later_reading n (ellipsis_at s at)) _
@@ -129,15 +130,15 @@ module _ (s : List ℕ) where
   accepted-walked g next n q = let goes : (place_of_header s 0 n ≡ next) × (next ≤ length s) × HeadersPassed s (length s) 0 n = rw q at signature-goes in goes.0
 
 -- what whoever hands on a result's fault needs
-pub result-fault-third : (c : Convention) (s : List ℕ) (at : ℕ) (x : ResultRead) (f : Fault) → at ≤ length s → x ≡ result_answer c (result_at c s at) →
-    x ≡ ResultRead.Refused f → at + 3 * f.passed ≤ length s
+pub result-fault-third : (c : Convention) (s : List ℕ) (at : ℕ) (x : Result ResultItem Fault) (f : Fault) → at ≤ length s → x ≡ result_answer c (result_at c s at) →
+    x ≡ Err f → at + 3 * f.passed ≤ length s
 result-fault-third c s at x f room found q =
     let goes : HowFar s (length s) at f = rw (result-was-refused c (result_at c s at) f (sym q ∙ found)) at (result-goes s c at room) in
     far-third s (length s) at f goes
 
 -- and an ellipsis's
-pub ellipsis-fault-third : (s : List ℕ) (at : ℕ) (x : EllipsisRead) (f : Fault) → at ≤ length s → x ≡ ellipsis_answer (ellipsis_at s at) →
-    x ≡ EllipsisRead.Refused f → at + 3 * f.passed ≤ length s
+pub ellipsis-fault-third : (s : List ℕ) (at : ℕ) (x : Result EllipsisItem Fault) (f : Fault) → at ≤ length s → x ≡ ellipsis_answer (ellipsis_at s at) →
+    x ≡ Err f → at + 3 * f.passed ≤ length s
 ellipsis-fault-third s at x f room found q =
     let goes : HowFar s (length s) at f = rw (ellipsis-was-refused (ellipsis_at s at) f (sym q ∙ found)) at (ellipsis-goes s at room) in
     far-third s (length s) at f goes

@@ -1,4 +1,6 @@
 -- The loop over the arguments: its invariant, and what each way out of a turn gives. Assumes nothing.
+use Rattle.sig_items.specs.declared.Item.{Item}
+use Rattle.std.proofs.Common.{Ok, Err, Result, Option}
 use Prim.Native.Nat.{ℕ, ◌+◌, ◌-◌, ◌*◌, ◌≤◌, ◌<◌}
 use mathlib.Core.Path.{◌≡◌, refl, sym, ◌∙◌}
 use mathlib.Core.Bool.{Bool}
@@ -13,19 +15,16 @@ use Rattle.sig_types.specs.declared.ValueType.{ValueType}
 use Rattle.sig_types.specs.Trees.{Tree, Trees, none, ◌▸◌, type_of, count_of}
 use Rattle.sig_items.specs.declared.Refusal.{Refusal}
 use Rattle.sig_items.specs.declared.Fault.{Fault}
-use Rattle.sig_items.specs.declared.ItemRead.{ItemRead}
 use Rattle.sig_items.specs.Reading.{fault, got, no, later}
 use Rattle.sig_items.specs.Read.{sequence, item_at}
-use Rattle.sig_items.specs.Answer.{item_answer}
+use Rattle.sig_items.specs.Answer.{item_answer, item_found}
 use Rattle.sig_items.specs.Encode.{encode_tree, encode_trees}
 use Rattle.sig_items.proofs.Laws.{sequence-done, sequence-full, sequence-more, sequence-no, item-got, item-no}
 use Rattle.sig_items.proofs.Loop.{item-answered}
 use Rattle.sig_items.proofs.Sound.{item-read}
 use Rattle.sig_signatures.specs.Limits.{max_arguments}
 use Rattle.sig_signatures.specs.declared.Argument.{Argument}
-use Rattle.sig_signatures.specs.declared.ResultType.{ResultType}
 use Rattle.sig_signatures.specs.declared.SignatureRead.{SignatureRead}
-use Rattle.sig_signatures.specs.declared.Outcome.{Outcome}
 use Rattle.sig_signatures.specs.Read.{arguments_in}
 use Rattle.sig_signatures.specs.Answer.{argument, no_arguments, listed, table, refused_signature}
 use Rattle.sig_signatures.specs.Helpers.{with_arguments}
@@ -76,13 +75,13 @@ module _ (c : Convention) (s : List ℕ) (start e : ℕ) where
       pub turn-full : count ≡ max_arguments → arguments_in c s start e ≡ no (fault Refusal.TooManyArguments next n)
       turn-full q = sequence-full (item_at c 8 s e) e (arguments_in c s start e) turn.left next n ts turn.rest h (omega arith)
 
-      module _ (some : count ≡ max_arguments → ⊥) (r : ItemRead) (found : r ≡ item_answer c (item_at c 8 s e next)) where
-        pub turn-no : (f : Fault) → r ≡ ItemRead.Refused f → arguments_in c s start e ≡ no (later n f)
+      module _ (some : count ≡ max_arguments → ⊥) (r : Result Item Fault) (found : r ≡ item_answer c (item_at c 8 s e next)) where
+        pub turn-no : (f : Fault) → r ≡ Err f → arguments_in c s start e ≡ no (later n f)
         turn-no f q =
             sequence-no (item_at c 8 s e) e (arguments_in c s start e) turn.left next n ts turn.rest h (omega arith) f
             (item-no c (item_at c 8 s e next) f (sym q ∙ found))
 
-        pub turn_more : (t : ValueType) (after m : ℕ) → r ≡ ItemRead.Item t after m → More c s start e ts t (count + 1) after (n + m)
+        pub turn_more : (t : ValueType) (after m : ℕ) → r ≡ item_found t after m → More c s start e ts t (count + 1) after (n + m)
         unfolding count_of encode_trees
         turn_more t after m q =
             let (tree, read, same) = item-got c (item_at c 8 s e next) t after m (sym q ∙ found) in
@@ -118,8 +117,8 @@ module _ (c : Convention) (s : List ℕ) (start e : ℕ) where
   tabled_start l q h = record { ts = none; turn = turn-start c s start e h; types = q ∙ table_none c }
 
   module _ (l : List Argument) (count next n : ℕ) (tabled : Tabled c s start e l count next n) where
-    pub tabled-more : next < e → (count ≡ max_arguments → ⊥) → (r : ItemRead) → r ≡ item_answer c (item_at c 8 s e next) → (t : ValueType) (after m : ℕ) →
-        r ≡ ItemRead.Item t after m → Tabled c s start e (set l count (argument t)) (count + 1) after (n + m)
+    pub tabled-more : next < e → (count ≡ max_arguments → ⊥) → (r : Result Item Fault) → r ≡ item_answer c (item_at c 8 s e next) → (t : ValueType) (after m : ℕ) →
+        r ≡ item_found t after m → Tabled c s start e (set l count (argument t)) (count + 1) after (n + m)
     tabled-more h some r found t after m q =
         let turn = tabled.turn in
         let more = turn_more c s start e tabled.ts count next n turn h some r found t after m q in
@@ -129,15 +128,15 @@ module _ (c : Convention) (s : List ℕ) (start e : ℕ) where
           types = same_set tabled.types turn.many more.same ∙ table_more c tabled.ts more.tree (omega (arith, turn.few, turn.many));
         }
 
-    module _ (last : e ≤ next) (result : ResultType) (v : Bool) (before : ℕ) where
+    module _ (last : e ≤ next) (result : Option ValueType) (v : Bool) (before : ℕ) where
       pub tabled-trailing : next < length s → refused_signature (fault Refusal.TrailingBytes next (before + n)) ≡ with_arguments c result v before (length s) (arguments_in c s start e)
       tabled-trailing h = rw (turn_last c s start e tabled.ts count next n tabled.turn last, lt-ltb next (length s) h)
 
       pub tabled-end : length s ≤ next →
-          ◌≡◌ {A = SignatureRead} (record { outcome = Outcome.Accepted (before + n); convention = c; result = result; ellipsis = v; count = count; arguments = l })
+          ◌≡◌ {A = SignatureRead} (record { outcome = Ok (before + n); convention = c; result = result; ellipsis = v; count = count; arguments = l })
           (with_arguments c result v before (length s) (arguments_in c s start e))
       tabled-end h = rw (turn_last c s start e tabled.ts count next n tabled.turn last, le-ltb next (length s) h) (cc (tabled.turn.many, tabled.types))
 
-  pub arguments-no : (f : Fault) → arguments_in c s start e ≡ no f → (result : ResultType) (v : Bool) (before all : ℕ) →
+  pub arguments-no : (f : Fault) → arguments_in c s start e ≡ no f → (result : Option ValueType) (v : Bool) (before all : ℕ) →
       refused_signature (later before f) ≡ with_arguments c result v before all (arguments_in c s start e)
   arguments-no f q result v before all = rw q

@@ -4,7 +4,7 @@ use mathlib.Core.Bool.{Bool}
 use Rattle.base_conventions.specs.declared.Convention.{Convention}
 use Rattle.sig_items.specs.Reading.{Reading, got, no}
 use Rattle.sig_items.specs.Refusals.{reading_number}
-use Rattle.sig_signatures.specs.Signature.{Result, Signature, Head}
+use Rattle.sig_signatures.specs.Signature.{ResultTree, Signature, HeadTree}
 use Rattle.sig_signatures.specs.Answer.{convention_answer, result_answer, ellipsis_answer, head_answer, signature_answer}
 use Rattle.sig_signatures.specs.Numbers.{outcome_number, convention_read_number, result_read_number, ellipsis_read_number, head_read_number}
 
@@ -16,7 +16,7 @@ pub convention-number : (x : Reading Convention) → convention_read_number (con
 convention-number (got c next n) = refl
 convention-number (no f) = refl
 
-pub result-number : (c : Convention) (x : Reading Result) → result_read_number (result_answer c x) ≡ reading_number x
+pub result-number : (c : Convention) (x : Reading ResultTree) → result_read_number (result_answer c x) ≡ reading_number x
 result-number c (got r next n) = refl
 result-number c (no f) = refl
 
@@ -24,6 +24,6 @@ pub ellipsis-number : (x : Reading Bool) → ellipsis_read_number (ellipsis_answ
 ellipsis-number (got v next n) = refl
 ellipsis-number (no f) = refl
 
-pub head-number : (x : Reading Head) → head_read_number (head_answer x) ≡ reading_number x
+pub head-number : (x : Reading HeadTree) → head_read_number (head_answer x) ≡ reading_number x
 head-number (got h next n) = refl
 head-number (no f) = refl

@@ -1,4 +1,11 @@
 -- What is read is an encoding of a signature within the limits. Assumes nothing.
+use Rattle.sig_signatures.specs.declared.Head.{Head}
+use Rattle.sig_signatures.specs.declared.EllipsisItem.{EllipsisItem}
+use Rattle.sig_signatures.specs.declared.ResultItem.{ResultItem}
+use Rattle.sig_items.specs.declared.Fault.{Fault}
+use Rattle.sig_types.specs.declared.ValueType.{ValueType}
+use Rattle.base_conventions.specs.declared.UnknownConvention.{UnknownConvention}
+use Rattle.std.proofs.Common.{Ok, Err, Result, Option}
 use Prim.Native.Nat.{ℕ, ◌+◌, ◌*◌, ◌≤◌}
 use mathlib.Core.Path.{◌≡◌, refl, sym, ◌∙◌}
 use mathlib.Core.Bool.{Bool, true, false}
@@ -19,16 +26,11 @@ use Rattle.sig_items.proofs.Levels.{left-within, all-left-within}
 use Rattle.sig_items.proofs.Has.{Has, has_move, has-append, has-item, has_same, length-item}
 use Rattle.sig_items.proofs.Trees.{tree-third, trees-third}
 use Rattle.sig_items.proofs.Sound.{by-choose, by-then, by_next, by-body, Got, Framed, Read, Ended, none_read, sequence-sound, item-sound, got-with, body-cases}
-use Rattle.base_conventions.specs.declared.ConventionCode.{ConventionCode}
 use Rattle.base_conventions.specs.Numbers.{convention_code, code_of}
 use Rattle.base_conventions.proofs.Laws.{CodeIs, code_is}
 use Rattle.sig_types.specs.Sizes.{max_depth}
-use Rattle.sig_signatures.specs.declared.ResultType.{ResultType}
-use Rattle.sig_signatures.specs.declared.ResultRead.{ResultRead}
-use Rattle.sig_signatures.specs.declared.EllipsisRead.{EllipsisRead}
-use Rattle.sig_signatures.specs.declared.HeadRead.{HeadRead}
-use Rattle.sig_signatures.specs.Answer.{result_answer, ellipsis_answer, head_answer}
-use Rattle.sig_signatures.specs.Signature.{Result, nothing, value, Signature, Head}
+use Rattle.sig_signatures.specs.Answer.{result_answer, ellipsis_answer, head_answer, result_found, ellipsis_found, head_found}
+use Rattle.sig_signatures.specs.Signature.{ResultTree, nothing, value, Signature, HeadTree}
 use Rattle.sig_signatures.specs.Limits.{max_length, max_arguments}
 use Rattle.sig_signatures.specs.Read.{convention_by, convention_at, result_in, result_at, ellipsis_at, arguments_in, arguments_at, after_ellipsis, after_result, after_convention, signature_of, head_by, head_then, head_after, head_of}
 use Rattle.sig_signatures.proofs.Laws.{result-got, ellipsis-got, head-got}
@@ -53,15 +55,15 @@ unfolding convention_at Has
 convention-sound s = by-body (ConventionSound s) s 0x01 0x01 (length s) 0 _ (λ b framed.
     by-pick (Got (ConventionSound s)) (eqb b 4) _ _ (λ q. code b framed (eqb-true b 4 q) (convention_code (get_or s 3 0)) (code_is (get_or s 3 0))) (λ _. tt))
   where
-    code : (b : ℕ) → Framed s 0x01 0x01 (length s) 0 b → b ≡ 4 → (x : ConventionCode) → CodeIs (get_or s 3 0) x → Got (ConventionSound s) (convention_by x)
-    code b framed q (ConventionCode.Known c) v =
+    code : (b : ℕ) → Framed s 0x01 0x01 (length s) 0 b → b ≡ 4 → (x : Result Convention UnknownConvention) → CodeIs (get_or s 3 0) x → Got (ConventionSound s) (convention_by x)
+    code b framed q (Ok c) v =
         let whole : Framed s 0x01 0x01 (length s) 0 4 = rw q at framed in
         record { framed = whole; here = λ bytes. framed-item s 0x01 0 4 (code_of c ∷ []) whole refl bytes (v, tt); ends = refl; inside = whole.inside; count = refl }
-    code b framed q ConventionCode.Unknown v = tt
+    code b framed q (Err _) v = tt
 
 -- the result
 
-pub record ResultSound (c : Convention) (s : List ℕ) (at : ℕ) (r : Result) (next n : ℕ) : Type 0 where
+pub record ResultSound (c : Convention) (s : List ℕ) (at : ℕ) (r : ResultTree) (next n : ℕ) : Type 0 where
   pub framed : Framed s 0x02 0x02 (length s) at next
   pub within : ResultWithin c r
   pub here : Bytes s → Has s at (item 0x02 (encode_result r))
@@ -201,7 +203,7 @@ pub record SignatureSound (s : List ℕ) (g : Signature) (next n : ℕ) : Type 0
   pub ends : next ≡ length s
   pub items : n ≡ signature_items g
 
-module _ (s : List ℕ) (short : length s ≤ max_length) (c : Convention) (at₁ n₁ : ℕ) (first : ConventionSound s c at₁ n₁) (r : Result) (at₂ n₂ : ℕ)
+module _ (s : List ℕ) (short : length s ≤ max_length) (c : Convention) (at₁ n₁ : ℕ) (first : ConventionSound s c at₁ n₁) (r : ResultTree) (at₂ n₂ : ℕ)
     (second : ResultSound c s at₁ r at₂ n₂) where
   module _ (v : Bool) (at₃ n₃ : ℕ) (mark : EllipsisSound s at₂ v at₃ n₃) where
     all_sound : (ts : Trees) (next m : ℕ) → ArgumentsSound c s at₃ ts next m → length s ≤ next →
@@ -247,7 +249,7 @@ signature-sound s = by-choose (Got (SignatureSound s)) (ltb max_length (length s
 pub convention-read : (s : List ℕ) (c : Convention) (next n : ℕ) → convention_at s ≡ got c next n → ConventionSound s c next n
 convention-read s c next n q = rw q at (convention-sound s)
 
-pub result-read : (c : Convention) (s : List ℕ) (at : ℕ) (r : Result) (next n : ℕ) → result_at c s at ≡ got r next n → ResultSound c s at r next n
+pub result-read : (c : Convention) (s : List ℕ) (at : ℕ) (r : ResultTree) (next n : ℕ) → result_at c s at ≡ got r next n → ResultSound c s at r next n
 result-read c s at r next n q = rw q at (result-sound c s at)
 
 pub ellipsis-read : (s : List ℕ) (at : ℕ) (v : Bool) (next n : ℕ) → ellipsis_at s at ≡ got v next n → EllipsisSound s at v next n
@@ -256,7 +258,7 @@ ellipsis-read s at v next n q = rw q at (ellipsis-sound s at)
 pub signature-read : (s : List ℕ) (g : Signature) (next n : ℕ) → signature_of s ≡ got g next n → SignatureSound s g next n
 signature-read s g next n q = rw q at (signature-sound s)
 
-pub result-third : (r : Result) → 3 * result_items r ≤ length (encode_result r)
+pub result-third : (r : ResultTree) → 3 * result_items r ≤ length (encode_result r)
 unfolding result_items encode_result
 result-third nothing = omega arith
 result-third (value t) = tree-third t
@@ -273,10 +275,10 @@ pub record HeadBounded (s : List ℕ) (at b n : ℕ) : Type 0 where
   pub short : length s ≤ max_length
   pub third : 3 * n ≤ at
 
-abbrev HeadSound : List ℕ → Head → ℕ → ℕ → Type 0
+abbrev HeadSound : List ℕ → HeadTree → ℕ → ℕ → Type 0
 HeadSound s h next n = HeadBounded s next h.end n
 
-head-then-sound : (s : List ℕ) → length s ≤ max_length → (c : Convention) (r : Result) (at n : ℕ) → at ≤ length s → 3 * n ≤ at →
+head-then-sound : (s : List ℕ) → length s ≤ max_length → (c : Convention) (r : ResultTree) (at n : ℕ) → at ≤ length s → 3 * n ≤ at →
     Got (HeadSound s) (head_then s c r at n)
 unfolding head_then
 head-then-sound s short c r at n room few = by_next (EllipsisSound s at) (HeadSound s) n (ellipsis_at s at) _ (ellipsis-sound s at)
@@ -293,8 +295,8 @@ unfolding head_of
 head-sound s = by-choose (Got (HeadSound s)) (ltb max_length (length s)) _ _ (λ _. tt)
     (λ l. by-then (ConventionSound s) (HeadSound s) (convention_at s) _ (convention-sound s) (head-after-sound s (ltb-false max_length (length s) l)))
 
-pub head-bounded : (s : List ℕ) (x : HeadRead) (c : Convention) (t : ResultType) (v : Bool) (at b n : ℕ) → x ≡ head_answer (head_of s) →
-    x ≡ HeadRead.Head c t v at b n → HeadBounded s at b n
+pub head-bounded : (s : List ℕ) (x : Result Head Fault) (c : Convention) (t : Option ValueType) (v : Bool) (at b n : ℕ) → x ≡ head_answer (head_of s) →
+    x ≡ head_found c t v at b n → HeadBounded s at b n
 head-bounded s x c t v at b n found q = let (r, read, same) = head-got (head_of s) c t v at b n (sym q ∙ found) in rw read at (head-sound s)
 
 -- what a program's answer says of the result's item: it ends within the signature, three bytes or more for each item in it
@@ -302,8 +304,8 @@ pub record Bounded (s : List ℕ) (at next n : ℕ) : Type 0 where
   pub inside : next ≤ length s
   pub third : at + 3 * n ≤ next
 
-pub result-bounded : (c : Convention) (s : List ℕ) (at : ℕ) (x : ResultRead) (t : ResultType) (next n : ℕ) → x ≡ result_answer c (result_at c s at) →
-    x ≡ ResultRead.Result t next n → Bounded s at next n
+pub result-bounded : (c : Convention) (s : List ℕ) (at : ℕ) (x : Result ResultItem Fault) (t : Option ValueType) (next n : ℕ) → x ≡ result_answer c (result_at c s at) →
+    x ≡ result_found t next n → Bounded s at next n
 result-bounded c s at x t next n found q =
     let (r, read, same) = result-got c (result_at c s at) t next n (sym q ∙ found) in
     let k = result-read c s at r next n read in
@@ -311,8 +313,8 @@ result-bounded c s at x t next n found q =
     record { inside = k.inside; third = omega arith }
 
 -- and of the ellipsis's
-pub ellipsis-bounded : (s : List ℕ) (at : ℕ) (x : EllipsisRead) (v : Bool) (next n : ℕ) → at ≤ length s → x ≡ ellipsis_answer (ellipsis_at s at) →
-    x ≡ EllipsisRead.Ellipsis v next n → Bounded s at next n
+pub ellipsis-bounded : (s : List ℕ) (at : ℕ) (x : Result EllipsisItem Fault) (v : Bool) (next n : ℕ) → at ≤ length s → x ≡ ellipsis_answer (ellipsis_at s at) →
+    x ≡ ellipsis_found v next n → Bounded s at next n
 ellipsis-bounded s at x v next n room found q =
     let k = ellipsis-read s at v next n (ellipsis-got (ellipsis_at s at) v next n (sym q ∙ found)) in
     let third = ellipsis-third v in

@@ -16,7 +16,7 @@ use Rattle.sig_items.specs.declared.Fault.{Fault}
 use Rattle.sig_items.specs.Reading.{got, no}
 use Rattle.sig_items.specs.Encode.{item, encode_trees}
 use Rattle.sig_items.proofs.Trees.{bytes-item, tree-bytes, trees-bytes}
-use Rattle.sig_signatures.specs.Signature.{Result, nothing, value, Signature}
+use Rattle.sig_signatures.specs.Signature.{ResultTree, nothing, value, Signature}
 use Rattle.sig_signatures.specs.Read.{signature_of}
 use Rattle.sig_signatures.specs.Encode.{encode_result, ellipsis_item, encode, signature_items, ResultWithin, SignatureWithin}
 use Rattle.sig_signatures.specs.Exact.{ReadsExactly, ResultSized, Accepted}
@@ -33,7 +33,7 @@ reads-exactly s bytes = record {
   all = λ g n e. ap signature_of e.bytes ∙ encode-reads g e.within ∙ same-got g (ap length (sym e.bytes)) (sym e.items);
 }
 
-result-sized : (c : Convention) (r : Result) → ResultWithin c r → ResultSized c r
+result-sized : (c : Convention) (r : ResultTree) → ResultWithin c r → ResultSized c r
 unfolding ResultWithin
 result-sized c nothing w = tt
 result-sized c (value t) w = within-sized c t w
@@ -66,7 +66,7 @@ encode_injective g h w v q =
 
 -- an encoding within the limits is a list of bytes
 
-result-bytes : (r : Result) → length (encode_result r) < 65536 → Bytes (encode_result r)
+result-bytes : (r : ResultTree) → length (encode_result r) < 65536 → Bytes (encode_result r)
 unfolding encode_result
 result-bytes nothing l = bytes-none
 result-bytes (value t) l = tree-bytes t l

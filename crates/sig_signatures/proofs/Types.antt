@@ -16,7 +16,7 @@ use Rattle.sig_types.specs.Trees.{Tree, Trees, none, ◌▸◌, type_of, count_o
 use Rattle.sig_types.specs.Limits.{AllSized}
 use Rattle.sig_items.specs.Reading.{Reading, got, no}
 use Rattle.sig_signatures.specs.declared.Argument.{Argument}
-use Rattle.sig_signatures.specs.Signature.{Result, nothing, value, Signature}
+use Rattle.sig_signatures.specs.Signature.{ResultTree, nothing, value, Signature}
 use Rattle.sig_signatures.specs.Limits.{max_arguments}
 use Rattle.sig_signatures.specs.Read.{signature_of}
 use Rattle.sig_signatures.specs.Answer.{argument, listed, table, result_type, signature_answer}
@@ -61,7 +61,7 @@ length-table : (c : Convention) (ts : Trees) → count_of ts ≤ length (table c
 unfolding table
 length-table c ts = simp length-append (omega (arith, listed-length c ts))
 
-small_result : (c : Convention) (r : Result) → ResultSized c r → SmallResult c (result_type c r)
+small_result : (c : Convention) (r : ResultTree) → ResultSized c r → SmallResult c (result_type c r)
 small_result c nothing h = tt
 small_result c (value t) h = h.small
 

@@ -7,9 +7,9 @@ use Rattle.sig_types.specs.Trees.{count_of}
 use Rattle.sig_types.specs.Limits as types
 use Rattle.sig_items.specs.Encode.{item, encode_tree, encode_trees, items_of, items_in}
 use Rattle.sig_signatures.specs.Limits.{max_length, max_arguments}
-use Rattle.sig_signatures.specs.Signature.{Result, nothing, value, Signature}
+use Rattle.sig_signatures.specs.Signature.{ResultTree, nothing, value, Signature}
 
-unfoldable pub encode_result : Result → List ℕ
+unfoldable pub encode_result : ResultTree → List ℕ
 encode_result nothing = []
 encode_result (value t) = encode_tree t
 
@@ -24,7 +24,7 @@ encode g =
     item 0x01 (code_of g.convention ∷ [])
     ++ (item 0x02 (encode_result g.result) ++ (ellipsis_item g.ellipsis ++ item 0x03 (encode_trees g.arguments)))
 
-unfoldable pub result_items : Result → ℕ
+unfoldable pub result_items : ResultTree → ℕ
 result_items nothing = 0
 result_items (value t) = items_of t
 
@@ -36,7 +36,7 @@ ellipsis_items false = 0
 unfoldable pub signature_items : Signature → ℕ
 signature_items g = 3 + result_items g.result + ellipsis_items g.ellipsis + items_in g.arguments
 
-unfoldable pub ResultWithin : Convention → Result → Type 0
+unfoldable pub ResultWithin : Convention → ResultTree → Type 0
 ResultWithin c nothing = Unit {0}
 ResultWithin c (value t) = types.TypeWithin c t
 

@@ -8,7 +8,7 @@ use Rattle.sig_types.specs.Limits.{AllSized}
 use Rattle.sig_items.specs.declared.Fault.{Fault}
 use Rattle.sig_items.specs.Reading.{fault, got, no}
 use Rattle.sig_items.specs.HowFar.{place_of_header, stop_of, met_by, HowFar}
-use Rattle.sig_signatures.specs.Signature.{Result, nothing, value, Signature}
+use Rattle.sig_signatures.specs.Signature.{ResultTree, nothing, value, Signature}
 use Rattle.sig_signatures.specs.Read.{signature_of}
 use Rattle.sig_signatures.specs.Encode.{encode, signature_items, SignatureWithin}
 
@@ -24,7 +24,7 @@ pub record ReadsExactly (s : List ℕ) : Type 0 where
   pub only : (g : Signature) (next n : ℕ) → signature_of s ≡ got g next n → Encodes s g n
   pub all : (g : Signature) (n : ℕ) → Encodes s g n → signature_of s ≡ got g (length s) n
 
-abbrev pub ResultSized : Convention → Result → Type 0
+abbrev pub ResultSized : Convention → ResultTree → Type 0
 ResultSized c nothing = Unit {0}
 ResultSized c (value t) = Sized c (type_of c t)
 

@@ -4,19 +4,19 @@ use Rattle.std.specs.Prelude.{ℕ, Bool}
 use Rattle.base_conventions.specs.declared.Convention.{Convention}
 use Rattle.sig_types.specs.Trees.{Tree, Trees}
 
-pub data Result : Type 0 where
-  nothing : Result
-  value : Tree → Result
+pub data ResultTree : Type 0 where
+  nothing : ResultTree
+  value : Tree → ResultTree
 
 pub record Signature : Type 0 where
   pub convention : Convention
-  pub result : Result
+  pub result : ResultTree
   pub ellipsis : Bool
   pub arguments : Trees
 
 -- what stands before the arguments, whose item's body ends at `end`
-pub record Head : Type 0 where
+pub record HeadTree : Type 0 where
   pub convention : Convention
-  pub result : Result
+  pub result : ResultTree
   pub ellipsis : Bool
   pub end : ℕ

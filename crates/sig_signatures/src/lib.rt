@@ -17,77 +17,49 @@ pub const FEW_ARGUMENTS: usize = 12;
 
 pub const FEW_BYTES: usize = 3 * FEW_ARGUMENTS;
 
-#[derive(Clone, Copy)]
-pub enum ResultType {
-    Nothing,
-    Value(ValueType),
-}
-
-#[derive(Clone, Copy)]
+#[derive(Clone, Copy, Debug, PartialEq, Eq)]
 pub struct Argument {
     pub ty: ValueType,
 }
 
-// Accepted, with the count of items; or refused.
-#[derive(Clone, Copy)]
-pub enum Outcome {
-    Accepted(usize),
-    Refused(Fault),
-}
-
-// The answer on a signature. A refused one has no result, no ellipsis and no arguments; the places of the table past `count` hold an i8.
+// The answer on a signature: the count of items, or why it is refused. A refused one has no result, no ellipsis and no arguments; the places of the
+// table past `count` hold an i8.
 #[derive(Clone, Copy)]
 pub struct SignatureRead {
-    pub outcome: Outcome,
+    pub outcome: Result<usize, Fault>,
     pub convention: Convention,
-    pub result: ResultType,
+    pub result: Option<ValueType>,
     pub ellipsis: bool,
     pub count: usize,
     pub arguments: [Argument; MAX_ARGUMENTS],
 }
 
-// The first item.
-#[derive(Clone, Copy)]
-pub enum ConventionRead {
-    Known(Convention),
-    Refused(Fault),
-}
-
-// The second item, with the place after it and the count of its items.
-#[derive(Clone, Copy)]
-pub enum ResultRead {
-    Result {
-        ty: ResultType,
-        next: usize,
-        items: usize,
-    },
-    Refused(Fault),
+// The second item: the result's type, if there is a result, the place after it and the count of its items.
+#[derive(Clone, Copy, Debug, PartialEq, Eq)]
+pub struct ResultItem {
+    pub ty: Option<ValueType>,
+    pub next: usize,
+    pub items: usize,
 }
 
 // The ellipsis's item, or none, with the place of the last item and the count of its items.
-#[derive(Clone, Copy)]
-pub enum EllipsisRead {
-    Ellipsis {
-        present: bool,
-        next: usize,
-        items: usize,
-    },
-    Refused(Fault),
+#[derive(Clone, Copy, Debug, PartialEq, Eq)]
+pub struct EllipsisItem {
+    pub present: bool,
+    pub next: usize,
+    pub items: usize,
 }
 
 // What stands before the arguments: the convention, the result's type and whether there is an ellipsis; the arguments' bytes are those from `at` to `end`,
 // and `earlier` items came before theirs.
-#[derive(Clone, Copy)]
-pub enum HeadRead {
-    Head {
-        convention: Convention,
-        result: ResultType,
-        ellipsis: bool,
-        at: usize,
-        end: usize,
-        earlier: usize,
-    },
-    Refused(Fault),
+#[derive(Clone, Copy, Debug, PartialEq, Eq)]
+pub struct Head {
+    pub convention: Convention,
+    pub result: Option<ValueType>,
+    pub ellipsis: bool,
+    pub at: usize,
+    pub end: usize,
+    pub earlier: usize,
 }
 
 // A table with no argument in it.

@@ -1,4 +1,5 @@
 -- The laws of sizes, alignments and layouts: bounds first, then what closing a struct finds. Assumes nothing.
+use Rattle.std.proofs.Common.{Some, None}
 use mathlib.Core.Path.{◌≡◌, refl}
 use Prim.Native.Nat.{◌+◌, ◌≤◌, ◌<◌}
 use native.Mathlib.Omega.{arith}
@@ -12,7 +13,6 @@ use Rattle.sig_types.specs.declared.IntegerKind.{IntegerKind}
 use Rattle.sig_types.specs.declared.FloatFormat.{FloatFormat}
 use Rattle.sig_types.specs.declared.ValueType.{ValueType}
 use Rattle.sig_types.specs.declared.Fields.{Fields}
-use Rattle.sig_types.specs.declared.Closed.{Closed}
 use Rattle.sig_types.specs.Sizes.{integer_size, float_size, align_of, Sized}
 use Rattle.sig_types.specs.Structs.{no_fields, with_field, shape_of, closed}
 
@@ -86,11 +86,11 @@ module _ (c : Convention) (l : Fields) (t : ValueType) (sized : Sized c t) where
 -- closing
 
 module _ (l : Fields) where
-  pub closed-large : 256 < round_up l.end l.align → closed l ≡ Closed.TooLarge
+  pub closed-large : 256 < round_up l.end l.align → closed l ≡ None
   unfolding closed shape_of
   closed-large h = simp (lt-ltb 256 (round_up l.end l.align) h)
 
-  pub closed-small : round_up l.end l.align ≤ 256 → closed l ≡ Closed.Shape (shape_of l)
+  pub closed-small : round_up l.end l.align ≤ 256 → closed l ≡ Some (shape_of l)
   unfolding closed shape_of
   closed-small h = simp (le-ltb 256 (round_up l.end l.align) h)
 

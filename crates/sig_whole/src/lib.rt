@@ -7,65 +7,59 @@ ghost use Rattle.sig_signatures.specs.Answer.{refused_signature, signature_answe
 ghost use Rattle.sig_signatures.specs.Helpers.{with_arguments};
 
 use base_conventions::Convention;
-use sig_items::{Fault, ItemRead, Refusal};
-use sig_signatures::{Argument, HeadRead, MAX_ARGUMENTS, Outcome, ResultType, SignatureRead};
+use sig_items::{Fault, Refusal};
+use sig_signatures::{Argument, Head, MAX_ARGUMENTS, SignatureRead};
 
 fn refuse(fault: Fault) -> SignatureRead
     ensures { result ≡ refused_signature fault }
 {
     let arguments = sig_signatures::no_arguments();
     SignatureRead {
-        outcome: Outcome::Refused(fault),
+        outcome: Err(fault),
         convention: Convention::Ppc64,
-        result: ResultType::Nothing,
+        result: None,
         ellipsis: false,
         count: 0,
         arguments,
     }
 }
 
-// The arguments, in the last item's body from `at` to `end`, and the signature's end; `earlier` items came before this one.
-fn read_arguments(
-    s: &[u8],
-    c: Convention,
-    res: ResultType,
-    ellipsis: bool,
-    at: usize,
-    end: usize,
-    earlier: usize,
-) -> SignatureRead
-    requires { (at ≤ end) × (end ≤ length s.now) × (end ≤ 2 ^ 16) × (earlier ≤ 2 ^ 16) }
-    ensures { result ≡ with_arguments c res ellipsis earlier (length s.now) (arguments_in c s.now at end) }
+// The arguments, in the last item's body, and the signature's end; the head came before this item.
+fn read_arguments(s: &[u8], head: Head) -> SignatureRead
+    requires { (head.at ≤ head.end) × (head.end ≤ length s.now) × (head.end ≤ 2 ^ 16) × (head.earlier ≤ 2 ^ 16) }
+    ensures { result ≡ with_arguments head.convention head.result head.ellipsis head.earlier (length s.now) (arguments_in head.convention s.now head.at head.end) }
 {
     let mut arguments = sig_signatures::no_arguments();
     let mut count: usize = 0;
-    let mut next = at;
+    let mut next = head.at;
     let mut items: usize = 1;
-    while next < end {
+    while next < head.end {
         if count == MAX_ARGUMENTS {
             return refuse(Fault {
                 reason: Refusal::TooManyArguments,
                 place: next,
-                passed: earlier + items,
+                passed: head.earlier + items,
             });
         }
-        match sig_nested_items::read_item(s, c, next, end, sig_types::MAX_DEPTH) {
-            ItemRead::Item {
-                ty,
-                next: after,
-                items: more,
-            } => {
-                arguments[count] = Argument { ty };
-                count = count + 1;
-                next = after;
-                items = items + more;
+        match sig_nested_items::read_item(
+            s,
+            head.convention,
+            next,
+            head.end,
+            sig_types::MAX_DEPTH,
+        ) {
+            Ok(item) => {
+                arguments[count] = Argument { ty: item.ty };
+                count += 1;
+                next = item.next;
+                items += item.items;
             }
-            ItemRead::Refused(fault) => {
-                return refuse(sig_items::later_by(earlier + items, fault));
+            Err(fault) => {
+                return refuse(sig_items::later_by(head.earlier + items, fault));
             }
         }
     }
-    let counted = earlier + items;
+    let counted = head.earlier + items;
     if next < s.len() {
         return refuse(Fault {
             reason: Refusal::TrailingBytes,
@@ -74,10 +68,10 @@ fn read_arguments(
         });
     }
     SignatureRead {
-        outcome: Outcome::Accepted(counted),
-        convention: c,
-        result: res,
-        ellipsis,
+        outcome: Ok(counted),
+        convention: head.convention,
+        result: head.result,
+        ellipsis: head.ellipsis,
         count,
         arguments,
     }
@@ -90,14 +84,7 @@ pub fn read_signature(s: &[u8]) -> SignatureRead
     ensures { result ≡ signature_answer (signature_of s.now) }
 {
     match sig_head::read_head(s) {
-        HeadRead::Refused(fault) => refuse(fault),
-        HeadRead::Head {
-            convention,
-            result,
-            ellipsis,
-            at,
-            end,
-            earlier,
-        } => read_arguments(s, convention, result, ellipsis, at, end, earlier),
+        Err(fault) => refuse(fault),
+        Ok(head) => read_arguments(s, head),
     }
 }

@@ -213,7 +213,7 @@ fn misquotations_are_found() {
     let file = "crates/frame_history/specs/Preserved.antt";
     let quote = |file: &str, lines: &str| format!("In {file}:\n\n```\n{lines}\n```\n\nAnd on.\n");
     let closing = "close_latest [] = []\nclose_latest (o ∷ os) = os";
-    let opening = "open_after leave Accepted m os = close_latest os";
+    let opening = "open_after leave (Ok tt) m os = close_latest os";
 
     let faithful = quote(file, &format!("{closing}\n\n{opening}"));
     assert!(misquoted(&faithful).is_empty());

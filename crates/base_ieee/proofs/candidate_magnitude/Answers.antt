@@ -24,7 +24,7 @@ unfolding candidate_magnitude join
 returns-then-exponent-lt1151 c =
     omega (arith, ap (join single) (candidate-high (positive c.args.exponent c.args.fraction) (omega arith)))
 
-pub returns : goal.returns
+pub returns-else-exponent-lt1151 : goal.returns-else-exponent-lt1151
 unfolding candidate_magnitude join
-returns c =
+returns-else-exponent-lt1151 c =
     omega (arith, ap (join single) (candidate-high (positive c.args.exponent c.args.fraction) (omega arith)))

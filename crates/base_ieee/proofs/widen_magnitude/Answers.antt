@@ -13,107 +13,47 @@ use Rattle.base_ieee.proofs.Classes.{Normalised, normalised, leading-longer}
 use Rattle.base_ieee.proofs.Magnitudes.{magnitude-as}
 use Rattle.base_ieee.proofs.widen_magnitude.Goals as goal
 
--- Of a subnormal: the shift, which the code counts in 32 bits and the definition in 24, and the shifted fraction.
-record Shifted (f : ℕ) : Type 0 where
+-- Of a subnormal f: the shift s, which the code counts in 32 bits and the definition in 24, and the shifted fraction.
+record Shifted (f s : ℕ) : Type 0 where
   some : 0 < f
   normal-form : Normalised single f
-  count : count_leading_zeros 32 f ≡ shift single f + 8
-  product : f * 2 ^ (count_leading_zeros 32 f - 8) ≡ f * 2 ^ shift single f
+  count : s ≡ shift single f
+  product : f * 2 ^ s ≡ f * 2 ^ shift single f
   fields : magnitude (f / 2 ^ 23) (f % 2 ^ 23) ≡ magnitude 0 f
+
+leading-8 : (f : ℕ) → f < 2 ^ 23 → count_leading_zeros 32 f ≡ shift single f + 8
+leading-8 f small = leading-longer 24 8 f (omega arith)
+
+shifted : (f s : ℕ) → (f ≡ 0 → ⊥) → f < 2 ^ 23 → s ≡ count_leading_zeros 32 f - 8 → Shifted f s
+shifted f s some small e =
+    let pos : 0 < f = pos_of_ne-zero some in
+    let same : s ≡ shift single f = omega (arith, leading-8 f small) in record {
+      some = pos;
+      normal-form = normalised single f pos small;
+      count = same;
+      product = ap (λ (n : ℕ). f * 2 ^ n) same;
+      fields = ap₂ magnitude (omega arith) (omega arith);
+    }
 
 pub returns-then-m-eq0 : goal.returns-then-m-eq0
 unfolding join
 returns-then-m-eq0 c = sym (magnitude-as signed-zero _ _ (omega arith, omega arith))
 
-pub overflow_sub-shift : goal.overflow_sub-shift
-overflow_sub-shift c = omega (
-  arith,
-  (let it : Shifted c.args.m = let pos : 0 < c.args.m = pos_of_ne-zero c.if-m-eq0.false in
-      let e : count_leading_zeros 32 c.args.m ≡ shift single c.args.m + 8 = leading-longer 24 8 c.args.m (omega arith) in record {
-        some = pos;
-        normal-form = normalised single c.args.m pos (omega arith);
-        count = e;
-        product = ap (λ (n : ℕ). c.args.m * 2 ^ n) (omega arith);
-        fields = ap₂ magnitude (omega arith) (omega arith);
-      } in it),
-)
-
-pub overflow_cast-shift-then-m-lt-SINGLE_UNIT : goal.overflow_cast-shift-then-m-lt-SINGLE_UNIT
-overflow_cast-shift-then-m-lt-SINGLE_UNIT c = omega (
-  arith,
-  (let it : Shifted c.args.m = let pos : 0 < c.args.m = pos_of_ne-zero c.if-m-eq0.false in
-      let e : count_leading_zeros 32 c.args.m ≡ shift single c.args.m + 8 = leading-longer 24 8 c.args.m (omega arith) in record {
-        some = pos;
-        normal-form = normalised single c.args.m pos (omega arith);
-        count = e;
-        product = ap (λ (n : ℕ). c.args.m * 2 ^ n) (omega arith);
-        fields = ap₂ magnitude (omega arith) (omega arith);
-      } in it),
-)
-
-pub overflow_sub-result : goal.overflow_sub-result
-overflow_sub-result c = omega (
-  arith,
-  (let it : Shifted c.args.m = let pos : 0 < c.args.m = pos_of_ne-zero c.if-m-eq0.false in
-      let e : count_leading_zeros 32 c.args.m ≡ shift single c.args.m + 8 = leading-longer 24 8 c.args.m (omega arith) in record {
-        some = pos;
-        normal-form = normalised single c.args.m pos (omega arith);
-        count = e;
-        product = ap (λ (n : ℕ). c.args.m * 2 ^ n) (omega arith);
-        fields = ap₂ magnitude (omega arith) (omega arith);
-      } in it),
-)
-
-pub overflow_shl-result : goal.overflow_shl-result
-overflow_shl-result c = omega (
-  arith,
-  (let it : Shifted c.args.m = let pos : 0 < c.args.m = pos_of_ne-zero c.if-m-eq0.false in
-      let e : count_leading_zeros 32 c.args.m ≡ shift single c.args.m + 8 = leading-longer 24 8 c.args.m (omega arith) in record {
-        some = pos;
-        normal-form = normalised single c.args.m pos (omega arith);
-        count = e;
-        product = ap (λ (n : ℕ). c.args.m * 2 ^ n) (omega arith);
-        fields = ap₂ magnitude (omega arith) (omega arith);
-      } in it),
-)
+pub overflow_sub-m : goal.overflow_sub-m
+overflow_sub-m c = omega (arith, leading-8 c.args.m (omega arith))
 
 pub overflow_mul-result-then-m-lt-SINGLE_UNIT : goal.overflow_mul-result-then-m-lt-SINGLE_UNIT
-overflow_mul-result-then-m-lt-SINGLE_UNIT c = omega (
-  arith,
-  (let it : Shifted c.args.m = let pos : 0 < c.args.m = pos_of_ne-zero c.if-m-eq0.false in
-      let e : count_leading_zeros 32 c.args.m ≡ shift single c.args.m + 8 = leading-longer 24 8 c.args.m (omega arith) in record {
-        some = pos;
-        normal-form = normalised single c.args.m pos (omega arith);
-        count = e;
-        product = ap (λ (n : ℕ). c.args.m * 2 ^ n) (omega arith);
-        fields = ap₂ magnitude (omega arith) (omega arith);
-      } in it),
-)
+overflow_mul-result-then-m-lt-SINGLE_UNIT c =
+    omega (arith, shifted c.args.m c.from-shift.result c.if-m-eq0.false (omega arith) c.from-shift.ensures)
 
 pub overflow_add-result : goal.overflow_add-result
-overflow_add-result c = omega (
-  arith,
-  (let it : Shifted c.args.m = let pos : 0 < c.args.m = pos_of_ne-zero c.if-m-eq0.false in
-      let e : count_leading_zeros 32 c.args.m ≡ shift single c.args.m + 8 = leading-longer 24 8 c.args.m (omega arith) in record {
-        some = pos;
-        normal-form = normalised single c.args.m pos (omega arith);
-        count = e;
-        product = ap (λ (n : ℕ). c.args.m * 2 ^ n) (omega arith);
-        fields = ap₂ magnitude (omega arith) (omega arith);
-      } in it),
-)
+overflow_add-result c =
+    omega (arith, shifted c.args.m c.from-shift.result c.if-m-eq0.false (omega arith) c.from-shift.ensures)
 
 pub returns-then-m-lt-SINGLE_UNIT : goal.returns-then-m-lt-SINGLE_UNIT
 unfolding join
 returns-then-m-lt-SINGLE_UNIT c =
-    let k = (let it : Shifted c.args.m = let pos : 0 < c.args.m = pos_of_ne-zero c.if-m-eq0.false in
-    let e : count_leading_zeros 32 c.args.m ≡ shift single c.args.m + 8 = leading-longer 24 8 c.args.m (omega arith) in record {
-      some = pos;
-      normal-form = normalised single c.args.m pos (omega arith);
-      count = e;
-      product = ap (λ (n : ℕ). c.args.m * 2 ^ n) (omega arith);
-      fields = ap₂ magnitude (omega arith) (omega arith);
-    } in it) in
+    let k = shifted c.args.m c.from-shift.result c.if-m-eq0.false (omega arith) c.from-shift.ensures in
     omega (arith, k, magnitude-as subnormal 0 c.args.m (refl, k.some))
 
 pub returns-then-m-lt-SINGLE_INFINITY : goal.returns-then-m-lt-SINGLE_INFINITY
@@ -121,7 +61,7 @@ unfolding join
 returns-then-m-lt-SINGLE_INFINITY c =
     omega (arith, magnitude-as normal (c.args.m / 2 ^ 23) (c.args.m % 2 ^ 23) (omega arith, omega arith))
 
-pub returns : goal.returns
+pub returns-else-m-lt-SINGLE_INFINITY : goal.returns-else-m-lt-SINGLE_INFINITY
 unfolding join
-returns c =
+returns-else-m-lt-SINGLE_INFINITY c =
     omega (arith, magnitude-as infinity-or-nan (c.args.m / 2 ^ 23) (c.args.m % 2 ^ 23) (omega arith))

@@ -1,60 +1,45 @@
-use mathlib.Core.Path.{◌≡◌, refl, ap, ◌∙◌}
-use mathlib.Core.List.{List}
-use Prim.Native.Nat.{ℕ, ◌+◌, ◌*◌, ◌≤◌, ◌<◌, zero-le}
+-- Each turn takes one byte more of the part.
+use Rattle.std.proofs.Common.{◌≡◌, ℕ, min, ◌+◌, ◌-◌, ◌*◌, ◌<◌, ◌≤◌, List, length, take, drop, get_or, refl, ap, ◌∙◌, arith}
 use native.Mathlib.Numerals.{add-one}
-use native.Mathlib.Omega.{arith}
-use lib.ListN.{length, get_or}
-use lib.Seq.{drop-cons}
+use lib.Seq.{take-suc}
+use Rattle.std.proofs.lemmas.List.{length-take, take_all}
 use lib.Pow.{pow_mono}
 use Rattle.base_words.specs.Splice.{part}
 use Rattle.base_words.specs.Numbers.{value_of}
-use Rattle.base_words.proofs.Splices.{part-add}
-use Rattle.base_words.proofs.Numbers.{value-append, wider}
+use Rattle.base_words.proofs.Numbers.{bytes-part, value-append, wider}
 use Rattle.base_words.proofs.load.Goals as goal
 
 -- a turn
-next : (l : List ℕ) (at i : ℕ) → at + i < length l → value_of (part at i l) * 256 + get_or l (at + i) 0 ≡ value_of (part at (i + 1) l)
+next : (xs : List ℕ) (i : ℕ) → i < length xs → value_of (take i xs) * 256 + get_or xs i 0 ≡ value_of (take (i + 1) xs)
 unfolding value_of
-next l at i h = rw (part-add at i 1 l, drop-cons l (at + i) 0 h, value-append) (omega arith)
+next xs i h = rw (add-one i, take-suc xs i 0 h, value-append) (omega arith)
 
-pub loop-i-init : goal.loop-i-init
+-- the part has at most eight bytes
+few : (k i : ℕ) (l : List ℕ) → k ≤ 8 → i < length (take k l) → 8 * i ≤ 56
+few k i l short h = let long = length-take k l in omega arith
+
+pub loop-b-init : goal.loop-b-init
 unfolding value_of
-loop-i-init c = (zero-le, refl, omega arith)
+loop-b-init c = (refl, omega arith)
 
 pub overflow_mul-value : goal.overflow_mul-value
-overflow_mul-value c =
-    let short : 8 * c.loop-i.i ≤ 56 = omega arith in
-    omega (arith, pow_mono short)
+overflow_mul-value c = omega (arith, pow_mono (few _ _ _ (omega arith) c.loop-b-test.true), c.loop-b.invariant.1)
 
 pub overflow_add-value : goal.overflow_add-value
-overflow_add-value c = omega arith
+overflow_add-value c =
+    let byte = bytes-part c.args.at (c.args.at + c.args.n - c.args.at) c.args.s.now (λ i. omega (arith, c.type_inv.s i)) c.loop-b.b-index in
+    omega (arith, pow_mono (few _ _ _ (omega arith) c.loop-b-test.true), c.loop-b.invariant.1)
 
-pub bounds-s-at : goal.bounds-s-at
-bounds-s-at c = omega arith
-
-pub overflow_cast-value : goal.overflow_cast-value
-overflow_cast-value c = omega (arith, c.type_inv.s (c.args.at + c.loop-i.i))
-
-pub overflow_add-value-in-loop-i : goal.overflow_add-value-in-loop-i
-overflow_add-value-in-loop-i c =
-    let short : 8 * c.loop-i.i ≤ 56 = omega arith in
-    omega (arith, pow_mono short, c.type_inv.s (c.args.at + c.loop-i.i))
-
-pub overflow_add-i : goal.overflow_add-i
-overflow_add-i c = omega arith
-
-pub loop-i-smaller : goal.loop-i-smaller
-loop-i-smaller c = omega arith
-
-pub loop-i-preserved : goal.loop-i-preserved
-loop-i-preserved c =
-    let b : ℕ = get_or c.args.s.now (c.args.at + c.loop-i.i) 0 in (
-      omega arith,
-      ap (λ (v : ℕ). v * 256 + b) c.loop-i.invariant.1 ∙ next c.args.s.now c.args.at c.loop-i.i (omega arith),
-      rw (add-one c.loop-i.i) (omega (arith, wider c.loop-i.i, c.type_inv.s (c.args.at + c.loop-i.i))),
+pub loop-b-preserved : goal.loop-b-preserved
+loop-b-preserved c =
+    let xs : List ℕ = part c.args.at (c.args.at + c.args.n - c.args.at) c.args.s.now in
+    let byte = bytes-part c.args.at (c.args.at + c.args.n - c.args.at) c.args.s.now (λ i. omega (arith, c.type_inv.s i)) c.loop-b.b-index in
+    let value : c.loop-b.value * 256 + c.from.result ≡ value_of (take c.loop-b.b-index xs) * 256 + get_or xs c.loop-b.b-index 0 = cc in (
+      value ∙ next xs c.loop-b.b-index c.loop-b-test.true,
+      rw (add-one c.loop-b.b-index) (omega (arith, wider c.loop-b.b-index, c.loop-b.invariant.1)),
     )
 
 pub returns : goal.returns
 returns c =
-    let e : c.loop-i.i ≡ c.args.n = omega arith in
-    c.loop-i.invariant.1 ∙ rw e
+    let same : c.args.at + c.args.n - c.args.at ≡ c.args.n = omega arith in
+    c.loop-b.invariant.0 ∙ ap value_of (take_all c.loop-b.b-index _ (omega arith) ∙ ap (λ (n : ℕ). part c.args.at n c.args.s.now) same)

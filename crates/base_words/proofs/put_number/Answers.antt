@@ -1,9 +1,9 @@
 use mathlib.Core.Path.{◌≡◌, refl, sym, ap, ◌∙◌}
 use mathlib.Core.List.{List, [], ◌∷◌, ◌++◌}
 use Prim.Native.Nat.{ℕ, ◌+◌, ◌-◌, ◌/◌, ◌%◌}
-use native.Mathlib.Nat.{le_refl, div-one}
+use native.Mathlib.Nat.{div-one, le_refl}
 use native.Mathlib.Omega.{arith}
-use lib.ListN.{length, set, length-set}
+use lib.ListN.{length, set}
 use Rattle.base_words.specs.Splice.{overlay}
 use Rattle.base_words.specs.Numbers.{bytes_of}
 use Rattle.base_words.proofs.Splices.{overlay-append, overlay-commute, splice-one}
@@ -25,33 +25,15 @@ turn l n x =
     ∙ ap (λ (t : List ℕ). overlay t rest) (splice-one l (length rest) low ∙ rw e))
 
 pub loop-i-init : goal.loop-i-init
-loop-i-init c = (le_refl c.args.n, refl, refl)
-
-pub overflow_sub-i : goal.overflow_sub-i
-overflow_sub-i c = omega arith
-
-pub overflow_cast-s : goal.overflow_cast-s
-overflow_cast-s c = omega arith
-
-pub bounds-s-i : goal.bounds-s-i
-bounds-s-i c = omega arith
-
-pub loop-i-smaller : goal.loop-i-smaller
-loop-i-smaller c = omega arith
+loop-i-init c = refl
 
 pub loop-i-preserved : goal.loop-i-preserved
 loop-i-preserved c =
-    let e : c.loop-i.i - 1 + 1 ≡ c.loop-i.i = omega arith in (
-      omega arith,
-      turn c.loop-i.s (c.loop-i.i - 1) c.loop-i.rest ∙ ap (λ (k : ℕ). overlay c.loop-i.s (bytes_of k c.loop-i.rest)) e ∙ c.loop-i.invariant.1,
-      simp length-set (omega arith),
-    )
-
-pub shape_of-s : goal.shape_of-s
-shape_of-s c = c.loop-i.invariant.2
+    let e : c.loop-i.i - 1 + 1 ≡ c.loop-i.i = omega arith in
+    turn c.loop-i.s (c.loop-i.i - 1) c.loop-i.rest ∙ ap (λ (k : ℕ). overlay c.loop-i.s (bytes_of k c.loop-i.rest)) e ∙ c.loop-i.invariant
 
 pub returns : goal.returns
 unfolding bytes_of overlay
 returns c =
     let e : 0 ≡ c.loop-i.i = omega arith in
-    ap (λ (k : ℕ). overlay c.loop-i.s (bytes_of k c.loop-i.rest)) e ∙ c.loop-i.invariant.1
+    ap (λ (k : ℕ). overlay c.loop-i.s (bytes_of k c.loop-i.rest)) e ∙ c.loop-i.invariant

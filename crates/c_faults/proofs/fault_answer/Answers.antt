@@ -4,4 +4,4 @@ use Rattle.c_faults.proofs.fault_answer.Goals as goal
 
 pub returns : goal.returns
 unfolding fault_answer
-returns c = rw c.refusal_number.ensures
+returns c = rw c.from.ensures

@@ -1,10 +1,10 @@
 -- By the call of fill.
 use mathlib.Core.Path.{ap, ◌∙◌}
-use Rattle.call_slots.specs.declared.CallAnswer.{CallAnswer}
 use Rattle.call_slots.specs.Buffers.{buffers}
 use Rattle.call_fill.specs.Fill.{fill_buffers}
 use Rattle.c_call_answers.specs.Calls.{call_answer}
 use Rattle.c_fill.proofs.fz_fill.Goals as goal
+use Rattle.call_slots.specs.Answer.{CallAnswer}
 
 pub returns : goal.returns
 returns c =

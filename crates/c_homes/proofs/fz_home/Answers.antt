@@ -1,9 +1,9 @@
 -- By the call of home.
 use mathlib.Core.Path.{ap, ◌∙◌}
-use Rattle.call_slots.specs.declared.CallAnswer.{CallAnswer}
 use Rattle.call_home.specs.Home.{home_area}
 use Rattle.c_call_answers.specs.Calls.{call_answer}
 use Rattle.c_homes.proofs.fz_home.Goals as goal
+use Rattle.call_slots.specs.Answer.{CallAnswer}
 
 pub returns : goal.returns
 returns c = record {

@@ -1,10 +1,10 @@
 -- By the call of read.
 use mathlib.Core.Path.{ap, ◌∙◌}
-use Rattle.call_slots.specs.declared.CallAnswer.{CallAnswer}
 use Rattle.call_slots.specs.Buffers.{buffers}
 use Rattle.call_read.specs.Read.{read_values}
 use Rattle.c_call_answers.specs.Calls.{call_answer}
 use Rattle.c_read.proofs.fz_read.Goals as goal
+use Rattle.call_slots.specs.Answer.{CallAnswer}
 
 pub returns : goal.returns
 returns c =

@@ -3,10 +3,10 @@ use mathlib.Core.Path.{sym, ap, ◌∙◌}
 use Rattle.c_signatures.specs.Surface.{narrowing_answer}
 use Rattle.c_signatures.proofs.fz_narrow.Goals as goal
 
-pub returns-in-Single : goal.returns-in-Single
+pub returns-in-Some : goal.returns-in-Some
 unfolding narrowing_answer
-returns-in-Single c = ap narrowing_answer (sym c.in-Single.is ∙ c.narrow.ensures)
+returns-in-Some c = rw c.from.ensures (ap narrowing_answer (sym c.in-Some.is ∙ c.narrow.ensures))
 
-pub returns-in-NotWidened : goal.returns-in-NotWidened
+pub returns-in-None : goal.returns-in-None
 unfolding narrowing_answer
-returns-in-NotWidened c = ap narrowing_answer (sym c.in-NotWidened.is ∙ c.narrow.ensures)
+returns-in-None c = ap narrowing_answer (sym c.in-None.is ∙ c.narrow.ensures)

@@ -5,7 +5,7 @@ use Rattle.c_starts.proofs.fz_start_aix.Goals as goal
 
 pub returns : goal.returns
 returns c = record {
-  value = c.answer_of.ensures ∙ ap frame_answer c.start_aix-a.ensures.value;
-  machine_after = c.start_aix-a.ensures.words_after;
-  memory_after = c.start_aix-a.ensures.memory_after;
+  value = c.answer_of.ensures ∙ ap frame_answer c.start-a.ensures.value;
+  machine_after = c.start-a.ensures.words_after;
+  memory_after = c.start-a.ensures.memory_after;
 }

@@ -14,10 +14,10 @@ use Rattle.call_arguments.proofs.Kept.{lawful-in, keeping_start, keeping-room, k
 use Rattle.call_arguments.proofs.keep_arguments.Goals as goal
 
 pub loop-next-init : goal.loop-next-init
-loop-next-init c = keeping_start _ _ _ _ _ _ c.args.returned _ c.first_cursor-c.ensures (omega arith)
+loop-next-init c = keeping_start _ _ _ _ _ _ c.args.head.result _ c.first_cursor-c.ensures (omega arith)
 
-pub overflow_add-earlier : goal.overflow_add-earlier
-overflow_add-earlier c = omega (arith, c.loop-next.invariant.sizes.so_far.turn)
+pub overflow_add-head : goal.overflow_add-head
+overflow_add-head c = omega (arith, c.loop-next.invariant.sizes.so_far.turn)
 
 pub shape_of-kept-then-count-eq-MAX_ARGUMENTS : goal.shape_of-kept-then-count-eq-MAX_ARGUMENTS
 shape_of-kept-then-count-eq-MAX_ARGUMENTS c = c.loop-next.invariant.long
@@ -25,7 +25,7 @@ shape_of-kept-then-count-eq-MAX_ARGUMENTS c = c.loop-next.invariant.long
 pub returns-then-count-eq-MAX_ARGUMENTS : goal.returns-then-count-eq-MAX_ARGUMENTS
 returns-then-count-eq-MAX_ARGUMENTS c =
     let full = turn-full _ _ _ _ _ _ _ _ c.loop-next.invariant.sizes.so_far.turn c.loop-next-test.true c.if-count-eq-MAX_ARGUMENTS.true in record {
-      measured_value = (c.none_kept.ensures.0 ∙ measure-no _ _ _ _ _ _ _ full, c.none_kept.ensures.1 ∙ unclear-no _ _ _ _ _ c.args.earlier _ full);
+      measured_value = (c.none_kept.ensures.0 ∙ measure-no _ _ _ _ _ _ _ full, c.none_kept.ensures.1 ∙ unclear-no _ _ _ _ _ c.args.head.earlier _ full);
       kept_with = kept-no _ _ _ _ _ _ _ full _ _;
     }
 
@@ -38,54 +38,54 @@ unclear_after-unclear-requires c =
 
 pub step-p-requires : goal.step-p-requires
 step-p-requires c =
-    let a = item-answered _ _ _ _ _ _ _ _ _ (omega arith) c.read_item.ensures c.in-Item.is in (
-      rw c.rules_in-rules.ensures (lawful-in c.args.convention c.args.ellipsis),
+    let a = item-answered _ _ _ _ _ _ _ _ _ (omega arith) c.read_item.ensures c.in-Ok.is in (
+      rw c.rules_in-rules.ensures (lawful-in c.args.head.convention c.args.head.ellipsis),
       reached-roomy _ _ _ _ (omega (arith, c.loop-next.invariant.sizes.so_far.turn.few)) c.loop-next.invariant.sizes.so_far.reached,
       rw c.size_of-bytes.ensures a.sized.small,
     )
 
 pub keep-requires : goal.keep-requires
 keep-requires c =
-    let a = item-answered _ _ _ _ _ _ _ _ _ (omega arith) c.read_item.ensures c.in-Item.is in (
-      keeping-room _ _ _ _ _ _ c.requires.4 _ _ _ _ _ _ _ _ c.loop-next.invariant c.loop-next-test.true c.if-count-eq-MAX_ARGUMENTS.false _ c.read_item.ensures _ _ _ c.in-Item.is,
+    let a = item-answered _ _ _ _ _ _ _ _ _ (omega arith) c.read_item.ensures c.in-Ok.is in (
+      keeping-room _ _ _ _ _ _ c.requires.4 _ _ _ _ _ _ _ _ c.loop-next.invariant c.loop-next-test.true c.if-count-eq-MAX_ARGUMENTS.false _ c.read_item.ensures _ _ _ c.in-Ok.is,
       sized-codable _ _ a.sized,
     )
 
 pub overflow_add-values : goal.overflow_add-values
 overflow_add-values c =
-    let a = item-answered _ _ _ _ _ _ _ _ _ (omega arith) c.read_item.ensures c.in-Item.is in
+    let a = item-answered _ _ _ _ _ _ _ _ _ (omega arith) c.read_item.ensures c.in-Ok.is in
     omega (arith, a.sized.small, c.loop-next.invariant.sizes.so_far.reached.small, c.loop-next.invariant.sizes.so_far.turn.few, c.size_of-bytes.ensures)
 
 pub overflow_add-count : goal.overflow_add-count
 overflow_add-count c = omega (arith, c.loop-next.invariant.sizes.so_far.turn.few)
 
 pub overflow_add-items : goal.overflow_add-items
-overflow_add-items c = let a = item-answered _ _ _ _ _ _ _ _ _ (omega arith) c.read_item.ensures c.in-Item.is in omega (arith, a.third, a.inside, c.loop-next.invariant.sizes.so_far.turn)
+overflow_add-items c = let a = item-answered _ _ _ _ _ _ _ _ _ (omega arith) c.read_item.ensures c.in-Ok.is in omega (arith, a.third, a.inside, c.loop-next.invariant.sizes.so_far.turn)
 
 pub loop-next-smaller : goal.loop-next-smaller
-loop-next-smaller c = let a = item-answered _ _ _ _ _ _ _ _ _ (omega arith) c.read_item.ensures c.in-Item.is in omega (arith, a.on, a.inside, c.loop-next-test.true)
+loop-next-smaller c = let a = item-answered _ _ _ _ _ _ _ _ _ (omega arith) c.read_item.ensures c.in-Ok.is in omega (arith, a.on, a.inside, c.loop-next-test.true)
 
 pub loop-next-preserved : goal.loop-next-preserved
 unfolding placed
 loop-next-preserved c =
     rw (c.keep.ensures, c.step-p.ensures, c.unclear_after-unclear.ensures, c.size_of-bytes.ensures, c.rules_in-rules.ensures)
-    (keeping-more _ _ _ _ _ _ c.requires.4 _ _ _ _ _ _ _ _ c.loop-next.invariant c.loop-next-test.true c.if-count-eq-MAX_ARGUMENTS.false _ c.read_item.ensures _ _ _ c.in-Item.is)
+    (keeping-more _ _ _ _ _ _ c.requires.4 _ _ _ _ _ _ _ _ c.loop-next.invariant c.loop-next-test.true c.if-count-eq-MAX_ARGUMENTS.false _ c.read_item.ensures _ _ _ c.in-Ok.is)
 
-pub overflow_add-earlier-in-Refused : goal.overflow_add-earlier-in-Refused
-overflow_add-earlier-in-Refused c = omega (arith, c.loop-next.invariant.sizes.so_far.turn)
+pub overflow_add-head-in-Err : goal.overflow_add-head-in-Err
+overflow_add-head-in-Err c = omega (arith, c.loop-next.invariant.sizes.so_far.turn)
 
 pub later_by-requires : goal.later_by-requires
-later_by-requires c = let a = fault-answered _ _ _ _ _ _ _ c.loop-next.invariant.sizes.so_far.turn.within c.read_item.ensures c.in-Refused.is in omega (arith, a, c.loop-next.invariant.sizes.so_far.turn)
+later_by-requires c = let a = fault-answered _ _ _ _ _ _ _ c.loop-next.invariant.sizes.so_far.turn.within c.read_item.ensures c.in-Err.is in omega (arith, a, c.loop-next.invariant.sizes.so_far.turn)
 
-pub shape_of-kept-in-Refused : goal.shape_of-kept-in-Refused
-shape_of-kept-in-Refused c = c.loop-next.invariant.long
+pub shape_of-kept-in-Err : goal.shape_of-kept-in-Err
+shape_of-kept-in-Err c = c.loop-next.invariant.long
 
-pub returns-in-Refused : goal.returns-in-Refused
-returns-in-Refused c =
-    let refused-by = turn-no _ _ _ _ _ _ _ _ c.loop-next.invariant.sizes.so_far.turn c.loop-next-test.true c.if-count-eq-MAX_ARGUMENTS.false _ c.read_item.ensures _ c.in-Refused.is in record {
+pub returns-in-Err : goal.returns-in-Err
+returns-in-Err c =
+    let refused-by = turn-no _ _ _ _ _ _ _ _ c.loop-next.invariant.sizes.so_far.turn c.loop-next-test.true c.if-count-eq-MAX_ARGUMENTS.false _ c.read_item.ensures _ c.in-Err.is in record {
       measured_value = (
-        c.none_kept-in-Refused.ensures.0 ∙ ap (λ (f : Fault). measure_of (refused_plan f)) (c.later_by.ensures ∙ later-later _ _ _) ∙ measure-no _ _ _ _ _ _ _ refused-by,
-        c.none_kept-in-Refused.ensures.1 ∙ unclear-no _ _ _ _ _ c.args.earlier _ refused-by,
+        c.none_kept-in-Err.ensures.0 ∙ ap (λ (f : Fault). measure_of (refused_plan f)) (c.later_by.ensures ∙ later-later _ _ _) ∙ measure-no _ _ _ _ _ _ _ refused-by,
+        c.none_kept-in-Err.ensures.1 ∙ unclear-no _ _ _ _ _ c.args.head.earlier _ refused-by,
       );
       kept_with = kept-no _ _ _ _ _ _ _ refused-by _ _;
     }
@@ -102,7 +102,7 @@ returns-then-next-s c =
     record {
       measured_value = (
         c.none_kept-then-next-s.ensures.0 ∙ measure-trailing _ _ _ _ _ _ _ _ _ _ _ _ m.sizes c.loop-next-test.false c.if-next-s.true,
-        c.none_kept-then-next-s.ensures.1 ∙ unclear-trailing _ _ _ _ _ c.args.earlier _ _ _ _ _ _ m.sizes c.loop-next-test.false c.if-next-s.true,
+        c.none_kept-then-next-s.ensures.1 ∙ unclear-trailing _ _ _ _ _ c.args.head.earlier _ _ _ _ _ _ m.sizes c.loop-next-test.false c.if-next-s.true,
       );
       kept_with = kept-trailing _ _ _ _ _ _ _ c.requires.4 _ _ _ _ _ _ _ m c.loop-next-test.false c.if-next-s.true _;
     }
@@ -116,7 +116,7 @@ returns c =
     record {
       measured_value = (
         rw c.area_of-area.ensures (measure-end _ _ _ _ _ _ _ _ _ _ _ _ m.sizes c.loop-next-test.false c.if-next-s.false),
-        unclear-end _ _ _ _ _ c.args.earlier _ _ _ _ _ _ m.sizes c.loop-next-test.false c.if-next-s.false,
+        unclear-end _ _ _ _ _ c.args.head.earlier _ _ _ _ _ _ m.sizes c.loop-next-test.false c.if-next-s.false,
       );
       kept_with = kept-end _ _ _ _ _ _ _ c.requires.4 _ _ _ _ _ _ _ m c.loop-next-test.false;
     }

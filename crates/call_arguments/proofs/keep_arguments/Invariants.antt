@@ -5,7 +5,7 @@ use Rattle.call_arguments.proofs.Kept.{Keeping}
 use Rattle.call_arguments.proofs.keep_arguments.Given as goal
 
 abbrev pub invariant-loop-next : goal.invariant-loop-next
-invariant-loop-next l = Keeping l.convention l.ellipsis l.s l.at l.end l.initial.c l.initial.kept l.c l.kept l.values l.unclear l.count l.next l.items
+invariant-loop-next l = Keeping l.head.convention l.head.ellipsis l.s l.head.at l.head.end l.initial.c l.initial.kept l.c l.kept l.values l.unclear l.count l.next l.items
 
 abbrev pub decreases-loop-next : goal.decreases-loop-next
-decreases-loop-next l = l.end - l.next
+decreases-loop-next l = l.head.end - l.next

@@ -5,24 +5,26 @@ use Rattle.sig_signatures.proofs.Laws.{signature-refused}
 use Rattle.sig_signatures.proofs.Sound.{head-bounded}
 use Rattle.call_arguments.proofs.Kept.{none_left}
 use Rattle.call_fill.specs.Fill.{fill_buffers}
-use Rattle.call_fill.proofs.Accepted.{answer-unread}
+use Rattle.call_slots.specs.declared.CallError.{CallError}
+use Rattle.call_slots.proofs.Refusals.{handed}
+use Rattle.call_fill.proofs.Accepted.{answer-unread, buffers-kept}
 use Rattle.call_fill.proofs.fill.Goals as goal
 
 pub fill_none-requires : goal.fill_none-requires
-fill_none-requires c = let head = sym c.read_head.ensures ∙ c.in-Head.is in none_left _ _ _ _ _ _ _ head c.if-at-end.true
+fill_none-requires c = let head = sym c.read_head.ensures ∙ c.in_ok-head.was in none_left _ _ _ _ _ _ _ head c.if-head.true
 
-pub overflow_sub-end : goal.overflow_sub-end
-overflow_sub-end c = let k = head-bounded _ _ _ _ _ _ _ _ c.read_head.ensures c.in-Head.is in omega arith
+pub overflow_sub-head : goal.overflow_sub-head
+overflow_sub-head c = let k = head-bounded _ _ _ _ _ _ _ _ c.read_head.ensures c.in_ok-head.was in omega arith
 
 pub fill_part-requires : goal.fill_part-requires
-fill_part-requires c = (sym c.read_head.ensures ∙ c.in-Head.is, λ i few within. omega arith)
+fill_part-requires c = (sym c.read_head.ensures ∙ c.in_ok-head.was, λ i few within. omega arith)
 
-pub fill_part-requires-in-Head : goal.fill_part-requires-in-Head
-fill_part-requires-in-Head c = (sym c.read_head.ensures ∙ c.in-Head.is, λ i few within. omega arith)
+pub fill_part-requires-2 : goal.fill_part-requires-2
+fill_part-requires-2 c = (sym c.read_head.ensures ∙ c.in_ok-head.was, λ i few within. omega arith)
 
-pub returns-in-Refused : goal.returns-in-Refused
-unfolding fill_buffers
-returns-in-Refused c = record {
-  value = answer-unread _ _ _ _ _ (signature-refused _ _ c.read_head.ensures _ c.in-Refused.is);
-  copies_after = refl;
-}
+pub returns-in_err-head : goal.returns-in_err-head
+returns-in_err-head c =
+    let handed-on = handed _ (CallError.Unread c.in_err-head.field-0.0) c.from_residual.ensures.1 in record {
+      value = handed-on ∙ answer-unread _ _ _ _ _ (signature-refused _ _ c.read_head.ensures _ c.in_err-head.was);
+      copies_after = buffers-kept c.args.sig.now c.args.values.now c.args.base c.args.hidden _ _ c.from_residual.ensures.0;
+    }

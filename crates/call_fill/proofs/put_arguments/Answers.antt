@@ -43,12 +43,6 @@ put_argument-requires c =
     let l : length (take c.size_of-size.result (drop c.loop-i.v c.args.values.now)) ≡ c.size_of-size.result = length-take-le c.size_of-size.result (drop c.loop-i.v c.args.values.now) (omega (arith, k.within, length-drop c.loop-i.v c.args.values.now)) in
     rw (m, l, c.loop-i.invariant.same.image, c.loop-i.invariant.same.area, c.loop-i.invariant.same.copies) k.ready
 
-pub overflow_add-i : goal.overflow_add-i
-overflow_add-i c = omega (arith, c.loop-i-test.true, c.ranges.count.fits)
-
-pub loop-i-smaller : goal.loop-i-smaller
-loop-i-smaller c = omega (arith, c.loop-i-test.true)
-
 pub loop-i-preserved : goal.loop-i-preserved
 loop-i-preserved c =
     let next = kept-placed _ _ _ _ c.loop-i-test.true _ _ _ c.type_at-t.ensures c.size_of-size.ensures c.span_at-s.ensures in

@@ -1,6 +1,5 @@
 -- The loop puts one argument a turn; what it has put and what is left make up the whole (`Going`).
 use borrow.Author.Rules.{rules}
-use Prim.Native.Nat.{◌-◌}
 use lib.ListN.{length}
 use Rattle.call_slots.specs.Buffers.{buffers}
 use Rattle.call_kept.specs.Helpers.{kept_all}
@@ -10,6 +9,3 @@ use Rattle.call_fill.proofs.put_arguments.Given as goal
 
 abbrev pub invariant-loop-i : goal.invariant-loop-i
 invariant-loop-i l = Going l.rules l.base (CanPut l.rules l.base (length l.initial.image) (length l.initial.area) (length l.initial.copies)) (kept_all l.convention l.kept l.count) l.values (buffers l.initial.image l.initial.area l.initial.copies) (buffers l.image l.area l.copies) l.v l.i
-
-abbrev pub decreases-loop-i : goal.decreases-loop-i
-decreases-loop-i l = l.count - l.i

@@ -1,28 +1,37 @@
--- By cases on what the check says.
-use Rattle.call_fill_stored.specs.FillStored.{stored_fill_answer, stored_fill_buffers}
-use Rattle.call_fill_stored.specs.declared.StoredFill.{StoredFill}
-use mathlib.Core.Path.{sym, ap, ◌∙◌}
+-- By cases on what the check says, and on what plain filling answers.
+use Rattle.std.proofs.Common.{◌≡◌, Ok, Err, Some, None, sym, ap, ◌∙◌}
+use Rattle.plan_stored.specs.Stored.{check_answer}
+use Rattle.call_fill_stored.specs.FillStored.{stored_fill_answer, stored_fill_buffers, filled_plain}
 use Rattle.call_fill_stored.proofs.fill_stored.Goals as goal
 
-pub returns-in-Differs : goal.returns-in-Differs
+pub returns-in-Ok-Some : goal.returns-in-Ok-Some
 unfolding stored_fill_answer stored_fill_buffers
-returns-in-Differs c = let q = sym c.check_plan.ensures ∙ c.in-Differs.is in record {
-  value = rw q;
-  copies_after = rw q;
-}
+returns-in-Ok-Some c =
+    let q : check_answer c.args.stored.now c.args.sig.now ≡ Ok (Some c.in-Ok-Some.place) = cc in
+    record { value = rw q; copies_after = rw q }
 
-pub returns-in-Refused : goal.returns-in-Refused
+pub returns-in-Err : goal.returns-in-Err
 unfolding stored_fill_answer stored_fill_buffers
-returns-in-Refused c = let q = sym c.check_plan.ensures ∙ c.in-Refused.is in record {
-  value = rw q;
-  copies_after = rw q;
-}
+returns-in-Err c =
+    let q = sym c.check_plan.ensures ∙ c.in-Err.is in
+    record { value = rw q; copies_after = rw q }
 
-pub returns-in-Same : goal.returns-in-Same
+pub returns-in-Ok : goal.returns-in-Ok
 unfolding stored_fill_answer stored_fill_buffers
-returns-in-Same c =
-    let q = sym c.check_plan.ensures ∙ c.in-Same.is in
+returns-in-Ok c =
+    let q : check_answer c.args.stored.now c.args.sig.now ≡ Ok None = cc in
+    let f = sym c.fill.ensures.value ∙ c.in-Ok.is in
     record {
-      value = rw q (ap StoredFill.Plain c.fill-answer.ensures.value);
-      copies_after = rw q (rw c.fill-answer.ensures.value at c.fill-answer.ensures.copies_after);
+      value = rw (q, f);
+      copies_after = rw q (rw c.fill.ensures.value at c.fill.ensures.copies_after);
+    }
+
+pub returns-in-Err-fill : goal.returns-in-Err-fill
+unfolding stored_fill_answer stored_fill_buffers
+returns-in-Err-fill c =
+    let q : check_answer c.args.stored.now c.args.sig.now ≡ Ok None = cc in
+    let f = sym c.fill.ensures.value ∙ c.in-Err-fill.is in
+    record {
+      value = rw (q, f);
+      copies_after = rw q (rw c.fill.ensures.value at c.fill.ensures.copies_after);
     }

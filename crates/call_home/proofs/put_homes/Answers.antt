@@ -44,12 +44,6 @@ put_home-requires c =
     registered-at _ _ _ _ _ (omega (arith, size, (let it : ((argument_at c.args.g c.args.p c.loop-i.i)).span.home.start ≤ length c.loop-i.area = omega (arith, ((let it : Registered (rules_in c.args.g) c.args.p.area (length c.args.image.now) ((argument_at c.args.g c.args.p c.loop-i.i)) = homing-ready _ _ _ _ _ _ _ _ ((argument_at c.args.g c.args.p c.loop-i.i)) ((let it : drop c.loop-i.i (placements_in c.args.g c.args.p) ≡ (argument_at c.args.g c.args.p c.loop-i.i) ∷ drop (suc c.loop-i.i) (placements_in c.args.g c.args.p) = next-argument c.args.g c.args.p c.loop-i.i c.loop-i-test.true c.requires.0.tables.types c.requires.0.tables.spans in it)) c.loop-i.invariant in it)).homed.within, c.requires.1, c.loop-i.invariant.same) in it), c.requires.1, c.loop-i.invariant.same))
     (registered-marked c.args.g.ellipsis (rules_of c.args.g.convention) _ _ _ ((let it : Registered (rules_in c.args.g) c.args.p.area (length c.args.image.now) ((argument_at c.args.g c.args.p c.loop-i.i)) = homing-ready _ _ _ _ _ _ _ _ ((argument_at c.args.g c.args.p c.loop-i.i)) ((let it : drop c.loop-i.i (placements_in c.args.g c.args.p) ≡ (argument_at c.args.g c.args.p c.loop-i.i) ∷ drop (suc c.loop-i.i) (placements_in c.args.g c.args.p) = next-argument c.args.g c.args.p c.loop-i.i c.loop-i-test.true c.requires.0.tables.types c.requires.0.tables.spans in it)) c.loop-i.invariant in it)))
 
-pub overflow_add-i : goal.overflow_add-i
-overflow_add-i c = omega (arith, c.requires.0.tables.few, c.loop-i-test.true)
-
-pub loop-i-smaller : goal.loop-i-smaller
-loop-i-smaller c = omega (arith, c.loop-i-test.true)
-
 pub loop-i-preserved : goal.loop-i-preserved
 loop-i-preserved c =
     let start : ℕ = ((argument_at c.args.g c.args.p c.loop-i.i)).span.home.start in

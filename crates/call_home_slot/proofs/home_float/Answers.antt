@@ -1,6 +1,7 @@
 -- By the float: a long double as it stands, a single and a double by the word in memory.
 use mathlib.Core.Path.{◌≡◌, sym, ap, ◌∙◌, subst}
-use mathlib.Core.List.{◌++◌}
+use mathlib.Core.Logic.{◌⊎◌, inl, inr}
+use mathlib.Core.List.{List, ◌++◌}
 use Prim.Native.Nat.{ℕ, ◌-◌}
 use native.Mathlib.Omega.{arith}
 use native.Mathlib.Nat.{add-sub_cancel_left}
@@ -15,6 +16,16 @@ use Rattle.call_home_slot.proofs.home_float.Goals as goal
 sized : (n room : ℕ) (e x : Equivalent) → HomeSized e n room → e ≡ x → HomeSized x n room
 sized n room e x h q = subst (λ (e : Equivalent). HomeSized e n room) q h
 
+-- a single or a double has one FPR, whose bits have a form in memory
+word-size : (n room : ℕ) (e : Equivalent) → HomeSized e n room → (e ≡ Equivalent.Single) ⊎ (e ≡ Equivalent.Double) → n ≡ 8
+word-size n room e h (inl q) = sized n room e Equivalent.Single h q
+word-size n room e h (inr q) = sized n room e Equivalent.Double h q
+
+word-home : (room n : ℕ) (e : Equivalent) (bs : List ℕ) → (e ≡ Equivalent.Single) ⊎ (e ≡ Equivalent.Double)
+    → bytes_of room (home_word e (value_of bs)) ≡ float_home room n e bs
+word-home room n e bs (inl q) = rw q
+word-home room n e bs (inr q) = rw q
+
 pub overflow_sub-room : goal.overflow_sub-room
 overflow_sub-room c = sized c.args.n c.args.room _ _ c.requires.2 c.in-Nothing.is
 
@@ -25,16 +36,10 @@ put_padded-requires c =
     rw taken (omega (arith, n, c.requires.1, length-take c.args.n (drop c.args.at c.args.image.now)))
 
 pub load-requires : goal.load-requires
-load-requires c = omega (arith, sized c.args.n c.args.room _ _ c.requires.2 c.in-Single.is, c.requires.0)
+load-requires c = omega (arith, word-size c.args.n c.args.room _ c.requires.2 c.in-Single.is, c.requires.0)
 
 pub put_number-requires : goal.put_number-requires
 put_number-requires c = c.requires.1
-
-pub load-requires-in-Double : goal.load-requires-in-Double
-load-requires-in-Double c = omega (arith, sized c.args.n c.args.room _ _ c.requires.2 c.in-Double.is, c.requires.0)
-
-pub put_number-requires-in-Double : goal.put_number-requires-in-Double
-put_number-requires-in-Double c = c.requires.1
 
 pub returns-in-Nothing : goal.returns-in-Nothing
 returns-in-Nothing c =
@@ -44,12 +49,8 @@ returns-in-Nothing c =
 
 pub returns-in-Single : goal.returns-in-Single
 returns-in-Single c =
-    let n : c.args.n ≡ 8 = sized c.args.n c.args.room _ _ c.requires.2 c.in-Single.is in
+    let n : c.args.n ≡ 8 = word-size c.args.n c.args.room _ c.requires.2 c.in-Single.is in
     let x = ap (home_word c.args.e) (c.load.ensures ∙ ap (λ (m : ℕ). value_of (part c.args.at m c.args.image.now)) (sym n)) in
-    c.put_number.ensures ∙ ap (λ (w : ℕ). overlay c.args.place.now (bytes_of c.args.room w)) (c.memory_word.ensures ∙ x) ∙ rw c.in-Single.is
-
-pub returns-in-Double : goal.returns-in-Double
-returns-in-Double c =
-    let n : c.args.n ≡ 8 = sized c.args.n c.args.room _ _ c.requires.2 c.in-Double.is in
-    let x = ap (home_word c.args.e) (c.load-in-Double.ensures ∙ ap (λ (m : ℕ). value_of (part c.args.at m c.args.image.now)) (sym n)) in
-    c.put_number-in-Double.ensures ∙ ap (λ (w : ℕ). overlay c.args.place.now (bytes_of c.args.room w)) (c.memory_word-in-Double.ensures ∙ x) ∙ rw c.in-Double.is
+    c.put_number.ensures
+    ∙ ap (λ (w : ℕ). overlay c.args.place.now (bytes_of c.args.room w)) (c.memory_word.ensures ∙ x)
+    ∙ ap (overlay c.args.place.now) (word-home c.args.room c.args.n c.args.e (part c.args.at c.args.n c.args.image.now) c.in-Single.is)

@@ -1,16 +1,26 @@
--- By the two tests, and the fields of a struct.
+-- By the number's range, and the fields of a struct.
+use Prim.Native.Nat.{◌≤◌, ◌<◌}
+use native.Mathlib.Omega.{arith}
 use borrow.Author.Tests.{lt-ltb, le-ltb}
 use Rattle.call_kept.specs.Helpers.{type_from}
 use Rattle.call_kept.proofs.type_from.Goals as goal
 
-pub returns-then-x-lt16 : goal.returns-then-x-lt16
+pub returns-in-0-to-15 : goal.returns-in-0-to-15
 unfolding type_from
-returns-then-x-lt16 c = rw (lt-ltb _ 16 c.if-x-lt16.true, c.kind_from.ensures)
+returns-in-0-to-15 c =
+    let low : c.args.x < 16 = omega arith in
+    rw (lt-ltb _ 16 low, c.kind_from.ensures)
 
-pub returns-then-x-lt32 : goal.returns-then-x-lt32
+pub returns-in-16-to-31 : goal.returns-in-16-to-31
 unfolding type_from
-returns-then-x-lt32 c = rw (le-ltb _ 16 c.if-x-lt16.false, lt-ltb _ 32 c.if-x-lt32.true, c.format_from.ensures)
+returns-in-16-to-31 c =
+    let over : 16 ≤ c.args.x = omega arith in
+    let low : c.args.x < 32 = omega arith in
+    rw (le-ltb _ 16 over, lt-ltb _ 32 low, c.format_from.ensures)
 
-pub returns : goal.returns
+pub returns-in_default : goal.returns-in_default
 unfolding type_from
-returns c = rw (le-ltb _ 16 c.if-x-lt16.false, le-ltb _ 32 c.if-x-lt32.false, c.equivalent_from.ensures)
+returns-in_default c =
+    let over : 16 ≤ c.args.x = omega arith in
+    let more : 32 ≤ c.args.x = omega arith in
+    rw (le-ltb _ 16 over, le-ltb _ 32 more, c.equivalent_from.ensures)

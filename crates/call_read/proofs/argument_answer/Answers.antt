@@ -10,43 +10,53 @@ use Rattle.call_slots.specs.Placements.{placement, words_at, fpr_bytes_at}
 use Rattle.call_slots.specs.Refusals.{float_answer}
 use Rattle.call_read.specs.Read.{own_held, agrees, agree_answer, argument_answer}
 use Rattle.call_slots.proofs.Limits.{answer-first, one_address}
-use Rattle.call_slots.proofs.Refusals.{not-refused}
+use Rattle.call_slots.proofs.Refusals.{handed_on, err-refused, ok-passed, ok-done}
 use Rattle.call_read.proofs.Arguments.{argument-float, argument-unwidened, argument-compared}
 use Rattle.call_read.proofs.argument_answer.Goals as goal
 
 pub returns-then-general-eq0 : goal.returns-then-general-eq0
 unfolding bytes_at
 returns-then-general-eq0 c =
-    argument-float c.args.r c.args.base ((placement c.args.t c.args.n c.args.s)) ((buffers c.args.image.now c.args.area.now c.args.copies.now)) c.if-floating-gt0.true _ ((let it : c.float_answer-answer.result ≡ float_answer c.args.r (equivalent_of c.args.t) (value_of (fpr_bytes_at c.args.s ((buffers c.args.image.now c.args.area.now c.args.copies.now)))) = c.float_answer-answer.ensures
+    let asked : c.float_answer.result ≡ float_answer c.args.r (equivalent_of c.args.t) (value_of (fpr_bytes_at c.args.s (buffers c.args.image.now c.args.area.now c.args.copies.now))) =
+    c.float_answer.ensures
     ∙ rw (c.equivalent_of.ensures, c.load-x.ensures)
-    (answer-first c.args.r (equivalent_of c.args.t) c.args.s.floating.count c.args.n (256 + 8 * c.args.s.floating.first) c.args.image.now (c.requires.registers.held.float c.if-floating-gt0.true)) in it)) c.if-general-eq0.true
+    (answer-first c.args.r (equivalent_of c.args.t) c.args.s.floating.count c.args.n (256 + 8 * c.args.s.floating.first) c.args.image.now (c.requires.registers.held.float c.if-floating-gt0.true)) in
+    sym (ok-done _ _ c.in_ok-float_answer.was)
+    ∙ argument-float c.args.r c.args.base ((placement c.args.t c.args.n c.args.s)) ((buffers c.args.image.now c.args.area.now c.args.copies.now)) c.if-floating-gt0.true _ asked c.if-general-eq0.true
 
-pub returns-then-is_refused : goal.returns-then-is_refused
+pub returns-in_err-float_answer : goal.returns-in_err-float_answer
 unfolding bytes_at
-returns-then-is_refused c =
-    argument-unwidened c.args.r c.args.base ((placement c.args.t c.args.n c.args.s)) ((buffers c.args.image.now c.args.area.now c.args.copies.now)) c.if-floating-gt0.true _ ((let it : c.float_answer-answer.result ≡ float_answer c.args.r (equivalent_of c.args.t) (value_of (fpr_bytes_at c.args.s ((buffers c.args.image.now c.args.area.now c.args.copies.now)))) = c.float_answer-answer.ensures
+returns-in_err-float_answer c =
+    let asked : c.float_answer.result ≡ float_answer c.args.r (equivalent_of c.args.t) (value_of (fpr_bytes_at c.args.s (buffers c.args.image.now c.args.area.now c.args.copies.now))) =
+    c.float_answer.ensures
     ∙ rw (c.equivalent_of.ensures, c.load-x.ensures)
-    (answer-first c.args.r (equivalent_of c.args.t) c.args.s.floating.count c.args.n (256 + 8 * c.args.s.floating.first) c.args.image.now (c.requires.registers.held.float c.if-floating-gt0.true)) in it)) (sym c.is_refused.ensures ∙ c.if-is_refused.true)
+    (answer-first c.args.r (equivalent_of c.args.t) c.args.s.floating.count c.args.n (256 + 8 * c.args.s.floating.first) c.args.image.now (c.requires.registers.held.float c.if-floating-gt0.true)) in
+    handed_on _ c.float_answer.result c.in_err-float_answer.field-0.0 c.from_residual.ensures.1 c.in_err-float_answer.was
+    ∙ argument-unwidened c.args.r c.args.base ((placement c.args.t c.args.n c.args.s)) ((buffers c.args.image.now c.args.area.now c.args.copies.now)) c.if-floating-gt0.true _ asked (err-refused _ _ c.in_err-float_answer.was)
 
 pub floats_agree-requires : goal.floats_agree-requires
 unfolding bytes_at
 floats_agree-requires c =
+    let asked : c.float_answer.result ≡ float_answer c.args.r (equivalent_of c.args.t) (value_of (fpr_bytes_at c.args.s (buffers c.args.image.now c.args.area.now c.args.copies.now))) =
+    c.float_answer.ensures
+    ∙ rw (c.equivalent_of.ensures, c.load-x.ensures)
+    (answer-first c.args.r (equivalent_of c.args.t) c.args.s.floating.count c.args.n (256 + 8 * c.args.s.floating.first) c.args.image.now (c.requires.registers.held.float c.if-floating-gt0.true)) in
     let some : 0 < c.args.s.general.count = omega (arith, c.if-general-eq0.false) in
     record {
       registers = c.requires.registers;
       float = c.if-floating-gt0.true;
       also = some;
-      exact = sym ((let it : c.float_answer-answer.result ≡ float_answer c.args.r (equivalent_of c.args.t) (value_of (fpr_bytes_at c.args.s ((buffers c.args.image.now c.args.area.now c.args.copies.now)))) = c.float_answer-answer.ensures
-          ∙ rw (c.equivalent_of.ensures, c.load-x.ensures)
-          (answer-first c.args.r (equivalent_of c.args.t) c.args.s.floating.count c.args.n (256 + 8 * c.args.s.floating.first) c.args.image.now (c.requires.registers.held.float c.if-floating-gt0.true)) in it)) ∙ not-refused _ (sym c.is_refused.ensures ∙ c.if-is_refused.false);
+      exact = sym asked ∙ ok-done _ _ c.in_ok-float_answer.was;
     }
 
 pub returns-then-floating-gt0 : goal.returns-then-floating-gt0
 unfolding agrees own_held bytes_at
 returns-then-floating-gt0 c =
-    argument-compared c.args.r c.args.base ((placement c.args.t c.args.n c.args.s)) ((buffers c.args.image.now c.args.area.now c.args.copies.now)) c.if-floating-gt0.true _ ((let it : c.float_answer-answer.result ≡ float_answer c.args.r (equivalent_of c.args.t) (value_of (fpr_bytes_at c.args.s ((buffers c.args.image.now c.args.area.now c.args.copies.now)))) = c.float_answer-answer.ensures
+    let asked : c.float_answer.result ≡ float_answer c.args.r (equivalent_of c.args.t) (value_of (fpr_bytes_at c.args.s (buffers c.args.image.now c.args.area.now c.args.copies.now))) =
+    c.float_answer.ensures
     ∙ rw (c.equivalent_of.ensures, c.load-x.ensures)
-    (answer-first c.args.r (equivalent_of c.args.t) c.args.s.floating.count c.args.n (256 + 8 * c.args.s.floating.first) c.args.image.now (c.requires.registers.held.float c.if-floating-gt0.true)) in it)) _ (sym c.is_refused.ensures ∙ c.if-is_refused.false)
+    (answer-first c.args.r (equivalent_of c.args.t) c.args.s.floating.count c.args.n (256 + 8 * c.args.s.floating.first) c.args.image.now (c.requires.registers.held.float c.if-floating-gt0.true)) in
+    argument-compared c.args.r c.args.base ((placement c.args.t c.args.n c.args.s)) ((buffers c.args.image.now c.args.area.now c.args.copies.now)) c.if-floating-gt0.true _ asked _ (ok-passed _ _ c.in_ok-float_answer.was)
     (c.agree_answer.ensures ∙ ap agree_answer c.floats_agree.ensures)
 
 pub word_at-address-requires : goal.word_at-address-requires

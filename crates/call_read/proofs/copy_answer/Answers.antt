@@ -1,5 +1,5 @@
 -- Done inside, refused outside.
 use Rattle.call_read.proofs.copy_answer.Goals as goal
 
-pub returns : goal.returns
-returns c = rw c.if-inside.false
+pub returns-else-inside : goal.returns-else-inside
+returns-else-inside c = rw c.if-inside.false

@@ -1,6 +1,5 @@
 -- The loop checks one argument a turn, or finds that nothing is asked of it; those that are left give what all give (`Checking`).
 use borrow.Author.Rules.{rules}
-use Prim.Native.Nat.{◌-◌}
 use lib.ListN.{length}
 use Rattle.call_slots.specs.Buffers.{buffers}
 use Rattle.call_slots.specs.Placements.{Placement}
@@ -12,6 +11,3 @@ use Rattle.call_read.proofs.first_refusal.Given as goal
 
 abbrev pub invariant-loop-i : goal.invariant-loop-i
 invariant-loop-i l = Checking (λ (q : Placement). argument_answer l.rules l.base q (buffers l.image l.area l.copies)) (InBuffers l.rules (length l.image) (length l.area)) (kept_all l.convention l.kept l.count) l.i
-
-abbrev pub decreases-loop-i : goal.decreases-loop-i
-decreases-loop-i l = l.count - l.i

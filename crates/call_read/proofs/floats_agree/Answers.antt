@@ -36,7 +36,7 @@ take_registers-requires c =
     let least : 1 ≤ word_of c.args.r = omega (arith, c.requires.registers.held.word) in
     let first = own_first c.args.r ((placement c.args.t c.args.n c.args.s)) c.requires.registers.held (c.requires.registers.held.direct c.requires.float) in
     let own = own_held_lem c.args.r ((placement c.args.t c.args.n c.args.s)) ((buffers c.args.image.now [] [])) c.requires in
-    let m = rw (c.word_of-word.ensures, c.own_start-lo.ensures) at c.smaller-m.ensures in
+    let m = rw (c.word_of-word.ensures, c.own_start-lo.ensures) at c.min-m.ensures in
     rw (c.word_of-word.ensures, c.own_start-lo.ensures)
     ((least, c.requires.registers.held.word.1, first, omega (arith, own, m), omega (arith, c.requires.registers.general, c.requires.registers.image)), omega (arith, m, value-most c.args.r ((placement c.args.t c.args.n c.args.s)) ((buffers c.args.image.now [] [])) c.requires))
 
@@ -47,7 +47,7 @@ take_float-requires c =
 pub same_bytes-requires : goal.same_bytes-requires
 same_bytes-requires c =
     let most = value-most c.args.r ((placement c.args.t c.args.n c.args.s)) ((buffers c.args.image.now [] [])) c.requires in
-    (omega (arith, c.smaller-m.ensures, most, ap length c.take_registers.ensures ∙ length-overlay _ _), omega (arith, c.smaller-m.ensures, most, ap length c.take_float.ensures ∙ length-overlay _ _))
+    (omega (arith, c.min-m.ensures, most, ap length c.take_registers.ensures ∙ length-overlay _ _), omega (arith, c.min-m.ensures, most, ap length c.take_float.ensures ∙ length-overlay _ _))
 
 pub returns : goal.returns
 unfolding bytes_at
@@ -55,5 +55,5 @@ returns c =
     let own = rw (c.word_of-word.ensures, c.own_start-lo.ensures) at c.take_registers.ensures in
     let value = rw c.equivalent_of.ensures at c.take_float.ensures in
     c.same_bytes.ensures
-    ∙ ap₂ (λ (x y : List ℕ). same_bytes (take c.smaller-m.result x) (take c.smaller-m.result y)) own value
-    ∙ agrees-compared c.args.r ((placement c.args.t c.args.n c.args.s)) ((buffers c.args.image.now [] [])) c.requires _ _ c.smaller-m.result refl refl (rw (c.word_of-word.ensures, c.own_start-lo.ensures) at c.smaller-m.ensures)
+    ∙ ap₂ (λ (x y : List ℕ). same_bytes (take c.min-m.result x) (take c.min-m.result y)) own value
+    ∙ agrees-compared c.args.r ((placement c.args.t c.args.n c.args.s)) ((buffers c.args.image.now [] [])) c.requires _ _ c.min-m.result refl refl (rw (c.word_of-word.ensures, c.own_start-lo.ensures) at c.min-m.ensures)

@@ -15,9 +15,6 @@ bounds-b-i c = omega (arith, c.loop-i-test.true, c.requires.1)
 pub returns-then-a-i : goal.returns-then-a-i
 returns-then-a-i c = comparing-not _ _ _ c.requires.0 c.requires.1 c.loop-i.i (omega (arith, c.loop-i-test.true)) c.if-a-i.true c.loop-i.invariant
 
-pub loop-i-smaller : goal.loop-i-smaller
-loop-i-smaller c = omega (arith, c.loop-i-test.true)
-
 pub loop-i-preserved : goal.loop-i-preserved
 loop-i-preserved c = comparing-more _ _ _ c.requires.0 c.requires.1 c.loop-i.i (omega (arith, c.loop-i-test.true)) c.if-a-i.false c.loop-i.invariant
 

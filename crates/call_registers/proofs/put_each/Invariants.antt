@@ -5,6 +5,3 @@ use Rattle.call_registers.proofs.put_each.Given as goal
 
 abbrev pub invariant-loop-i : goal.invariant-loop-i
 invariant-loop-i l = BytesPut l.initial.s l.v l.word l.count l.s l.i l.from
-
-abbrev pub decreases-loop-i : goal.decreases-loop-i
-decreases-loop-i l = l.count - l.i

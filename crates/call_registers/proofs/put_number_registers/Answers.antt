@@ -32,9 +32,6 @@ put_number-requires c =
     let room : 8 * c.loop-i.i + 8 ≤ length c.loop-i.s = omega (arith, c.loop-i-test.true, c.loop-i.invariant.size, c.requires) in
     omega (arith, length_part (8 * c.loop-i.i) (length c.loop-i.s - 8 * c.loop-i.i) c.loop-i.s (omega arith))
 
-pub loop-i-smaller : goal.loop-i-smaller
-loop-i-smaller c = omega (arith, c.loop-i-test.true)
-
 pub loop-i-preserved : goal.loop-i-preserved
 loop-i-preserved c =
     let more = number_more _ _ _ _ _ c.requires.1 c.requires.2 _ _ _ c.loop-i.invariant c.loop-i-test.true in

@@ -5,6 +5,3 @@ use Rattle.call_registers.proofs.put_number_registers.Given as goal
 
 abbrev pub invariant-loop-i : goal.invariant-loop-i
 invariant-loop-i l = NumberPut l.initial.s l.word l.count l.room l.x l.s l.i l.rest
-
-abbrev pub decreases-loop-i : goal.decreases-loop-i
-decreases-loop-i l = l.count - l.i

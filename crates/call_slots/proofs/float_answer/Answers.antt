@@ -2,5 +2,5 @@
 use mathlib.Core.Path.{◌∙◌}
 use Rattle.call_slots.proofs.float_answer.Goals as goal
 
-pub returns-in-Single : goal.returns-in-Single
-returns-in-Single c = c.narrowed_answer.ensures ∙ rw (c.in-Power.is, c.in-Single.is)
+pub returns-in-Power-Single : goal.returns-in-Power-Single
+returns-in-Power-Single c = c.narrowed_answer.ensures ∙ rw (c.in-Power-Single.is-0, c.in-Power-Single.is-1)

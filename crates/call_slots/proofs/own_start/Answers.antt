@@ -8,8 +8,8 @@ pub returns-then-starts_at_head : goal.returns-then-starts_at_head
 unfolding own_start
 returns-then-starts_at_head c = rw (sym c.starts_at_head.ensures ∙ c.if-starts_at_head.true)
 
-pub returns : goal.returns
+pub returns-else-starts_at_head : goal.returns-else-starts_at_head
 unfolding own_start
-returns c =
+returns-else-starts_at_head c =
     let h = sym c.starts_at_head.ensures ∙ c.if-starts_at_head.false in
     rw (h, c.requires.0)

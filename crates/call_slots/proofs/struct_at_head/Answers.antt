@@ -3,10 +3,10 @@ use borrow.Author.Tests.{eq-eqb, ne_eqb}
 use Rattle.call_slots.specs.Forms.{struct_at_head}
 use Rattle.call_slots.proofs.struct_at_head.Goals as goal
 
-pub returns-then-word-eq8 : goal.returns-then-word-eq8
+pub returns-then-word-ne8 : goal.returns-then-word-ne8
 unfolding struct_at_head
-returns-then-word-eq8 c = rw (eq-eqb _ _ c.if-word-eq8.true)
+returns-then-word-ne8 c = rw (ne_eqb _ _ c.if-word-ne8.true)
 
-pub returns : goal.returns
+pub returns-else-word-ne8 : goal.returns-else-word-ne8
 unfolding struct_at_head
-returns c = rw (ne_eqb _ _ c.if-word-eq8.false)
+returns-else-word-ne8 c = rw (eq-eqb _ _ c.if-word-ne8.false)

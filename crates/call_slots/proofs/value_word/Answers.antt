@@ -12,8 +12,8 @@ returns-then-is_signed c =
     let s : is_signed c.args.t ≡ _ = sym c.is_signed.ensures ∙ c.if-is_signed.true in
     c.sign_extend.ensures ∙ ap (sign_extended (length c.args.v.now)) (c.load-x.ensures ∙ ap value_of (part-whole (length c.args.v.now) c.args.v.now refl)) ∙ rw s
 
-pub returns : goal.returns
+pub returns-else-is_signed : goal.returns-else-is_signed
 unfolding extended
-returns c =
+returns-else-is_signed c =
     let s : is_signed c.args.t ≡ _ = sym c.is_signed.ensures ∙ c.if-is_signed.false in
     c.zero_extend.ensures ∙ ap (zero_extended (length c.args.v.now)) (c.load-x.ensures ∙ ap value_of (part-whole (length c.args.v.now) c.args.v.now refl)) ∙ rw s

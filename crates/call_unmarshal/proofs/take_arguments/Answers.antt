@@ -36,12 +36,6 @@ take_argument-requires c =
 pub overflow_add-v : goal.overflow_add-v
 overflow_add-v c = omega (arith, (let it : c.loop-i.v + ((placement c.type_at-t.result c.size_of-n.result c.span_at-s.result)).size ≤ length c.loop-i.values = taking-within _ _ _ _ _ _ _ _ ((placement c.type_at-t.result c.size_of-n.result c.span_at-s.result)) ((let it : drop c.loop-i.i ((kept_all c.args.convention c.args.kept.now c.args.count)) ≡ (placement c.type_at-t.result c.size_of-n.result c.span_at-s.result) ∷ drop (suc c.loop-i.i) ((kept_all c.args.convention c.args.kept.now c.args.count)) = kept-placed c.args.convention c.args.kept.now c.loop-i.i c.args.count c.loop-i-test.true _ _ _ c.type_at-t.ensures c.size_of-n.ensures c.span_at-s.ensures in it)) c.loop-i.invariant in it), c.loop-i.invariant.same, c.well_formed.0)
 
-pub overflow_add-i : goal.overflow_add-i
-overflow_add-i c = omega (arith, c.ranges.count, c.loop-i-test.true)
-
-pub loop-i-smaller : goal.loop-i-smaller
-loop-i-smaller c = omega (arith, c.loop-i-test.true)
-
 pub loop-i-preserved : goal.loop-i-preserved
 loop-i-preserved c =
     let x : List ℕ = value_at c.args.rules c.args.base ((placement c.type_at-t.result c.size_of-n.result c.span_at-s.result)) ((buffers c.args.image.now c.args.area.now c.args.copies.now)) in

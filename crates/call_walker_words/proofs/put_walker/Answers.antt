@@ -1,10 +1,11 @@
 -- Six words written one after the other are all the words. Assumes nothing.
-use mathlib.Core.Path.{◌≡◌, refl}
+use mathlib.Core.Path.{◌≡◌, refl, ◌∙◌}
 use mathlib.Core.List.{List, [], ◌∷◌}
 use Prim.Native.Nat.{ℕ}
 use native.Mathlib.Omega.{arith}
 use lib.ListN.{length, set, length-set}
 use Rattle.call_walker.specs.Words.{walker_words}
+use Rattle.call_walker_words.proofs.Marks.{flag-word}
 use Rattle.call_walker_words.proofs.put_walker.Goals as goal
 
 all-six : (l : List ℕ) → length l ≡ 6 → (a b c d e f : ℕ) → set (set (set (set (set (set l 0 a) 1 b) 2 c) 3 d) 4 e) 5 f ≡ a ∷ b ∷ c ∷ d ∷ e ∷ f ∷ []
@@ -28,4 +29,4 @@ shape_of-words c = simp length-set
 
 pub returns : goal.returns
 unfolding walker_words
-returns c = rw (c.code_of.ensures, c.flag.ensures, c.flag-2.ensures) (all-six c.args.words.now c.requires _ _ _ _ _ _)
+returns c = rw (c.from.ensures, c.from-2.ensures ∙ flag-word c.args.w.ellipsis, c.from-3.ensures ∙ flag-word c.args.w.hidden) (all-six c.args.words.now c.requires _ _ _ _ _ _)

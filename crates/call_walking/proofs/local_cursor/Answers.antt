@@ -4,7 +4,7 @@ use Rattle.call_walking.proofs.local_cursor.Goals as goal
 
 pub returns-in-Power : goal.returns-in-Power
 unfolding cursor_at
-returns-in-Power c = rw (c.in-Power.is, c.smaller.ensures)
+returns-in-Power c = rw (c.in-Power.is, c.min.ensures)
 
 pub returns-in-Z : goal.returns-in-Z
 unfolding cursor_at

@@ -6,19 +6,19 @@ use Rattle.frame_rules.proofs.Conventions.{lawful}
 use mathlib.Core.Path.{sym, ◌∙◌}
 use Rattle.frame_calls.proofs.leave.Goals as goal
 
-pub judge_leave-a-requires : goal.judge_leave-a-requires
-judge_leave-a-requires c =
+pub judge_leave-requires : goal.judge_leave-requires
+judge_leave-requires c =
     rw c.frame_rules_of-k.ensures (lawful c.args.s.convention)
 
 pub pop-requires : goal.pop-requires
 pop-requires c =
     let law : LawfulFrames c.frame_rules_of-k.result = rw c.frame_rules_of-k.ensures (lawful c.args.s.convention) in
-    (law, leave-yes c.frame_rules_of-k.result c.args.s c.args.memory.now (sym c.judge_leave-a.ensures ∙ c.in-Accepted.is))
+    (law, leave-yes c.frame_rules_of-k.result c.args.s c.args.memory.now (sym c.in-Ok.ensures))
 
-pub returns-in-Refused : goal.returns-in-Refused
-returns-in-Refused c =
-    sym (leave-refused c.args.s c.args.memory.now _ (rw c.frame_rules_of-k.ensures at (sym c.judge_leave-a.ensures ∙ c.in-Refused.is)))
+pub returns-in-Err : goal.returns-in-Err
+returns-in-Err c =
+    sym (leave-refused c.args.s c.args.memory.now _ (rw c.frame_rules_of-k.ensures at (sym c.in-Err.ensures)))
 
-pub returns-in-Accepted : goal.returns-in-Accepted
-returns-in-Accepted c =
-    rw (c.pop.ensures, c.frame_rules_of-k.ensures) (sym (leave-accepted c.args.s c.args.memory.now (rw c.frame_rules_of-k.ensures at (sym c.judge_leave-a.ensures ∙ c.in-Accepted.is))))
+pub returns-in-Ok : goal.returns-in-Ok
+returns-in-Ok c =
+    rw (c.pop.ensures, c.frame_rules_of-k.ensures) (sym (leave-accepted c.args.s c.args.memory.now (rw c.frame_rules_of-k.ensures at (sym c.in-Ok.ensures))))

@@ -13,28 +13,28 @@ use mathlib.Core.Path.{sym, ◌∙◌}
 use borrow.Author.Rules.{rules}
 use Rattle.frame_calls.proofs.write_memory.Goals as goal
 
-pub judge_write_memory-a-requires : goal.judge_write_memory-a-requires
-judge_write_memory-a-requires c =
+pub judge_write_memory-requires : goal.judge_write_memory-requires
+judge_write_memory-requires c =
     rw c.frame_rules_of-k.ensures (lawful c.args.s.convention)
 
 pub overflow_sub-at : goal.overflow_sub-at
 overflow_sub-at c =
     let law : LawfulFrames c.frame_rules_of-k.result = rw c.frame_rules_of-k.ensures (lawful c.args.s.convention) in
-    let y = write-memory-yes c.frame_rules_of-k.result c.args.s (length c.args.memory.now) c.args.address (length c.args.bytes.now) (sym c.judge_write_memory-a.ensures ∙ c.in-Accepted.is) in
+    let y = write-memory-yes c.frame_rules_of-k.result c.args.s (length c.args.memory.now) c.args.address (length c.args.bytes.now) (sym c.in-Ok.ensures) in
     let at = address-yes c.frame_rules_of-k.result law c.args.s (length c.args.memory.now) y.0 c.args.address (length c.args.bytes.now) y.1 in
     at.0
 
 pub slice_bounds-put-count : goal.slice_bounds-put-count
 slice_bounds-put-count c =
     let law : LawfulFrames c.frame_rules_of-k.result = rw c.frame_rules_of-k.ensures (lawful c.args.s.convention) in
-    let y = write-memory-yes c.frame_rules_of-k.result c.args.s (length c.args.memory.now) c.args.address (length c.args.bytes.now) (sym c.judge_write_memory-a.ensures ∙ c.in-Accepted.is) in
+    let y = write-memory-yes c.frame_rules_of-k.result c.args.s (length c.args.memory.now) c.args.address (length c.args.bytes.now) (sym c.in-Ok.ensures) in
     let at = address-yes c.frame_rules_of-k.result law c.args.s (length c.args.memory.now) y.0 c.args.address (length c.args.bytes.now) y.1 in
     omega arith
 
 pub slice_bounds-put-start : goal.slice_bounds-put-start
 slice_bounds-put-start c =
     let law : LawfulFrames c.frame_rules_of-k.result = rw c.frame_rules_of-k.ensures (lawful c.args.s.convention) in
-    let y = write-memory-yes c.frame_rules_of-k.result c.args.s (length c.args.memory.now) c.args.address (length c.args.bytes.now) (sym c.judge_write_memory-a.ensures ∙ c.in-Accepted.is) in
+    let y = write-memory-yes c.frame_rules_of-k.result c.args.s (length c.args.memory.now) c.args.address (length c.args.bytes.now) (sym c.in-Ok.ensures) in
     let at = address-yes c.frame_rules_of-k.result law c.args.s (length c.args.memory.now) y.0 c.args.address (length c.args.bytes.now) y.1 in
     let h : c.args.address - c.args.s.base ≤ length c.args.memory.now = omega arith in
     search rules
@@ -42,22 +42,22 @@ slice_bounds-put-start c =
 pub put-requires : goal.put-requires
 put-requires c =
     let law : LawfulFrames c.frame_rules_of-k.result = rw c.frame_rules_of-k.ensures (lawful c.args.s.convention) in
-    let y = write-memory-yes c.frame_rules_of-k.result c.args.s (length c.args.memory.now) c.args.address (length c.args.bytes.now) (sym c.judge_write_memory-a.ensures ∙ c.in-Accepted.is) in
+    let y = write-memory-yes c.frame_rules_of-k.result c.args.s (length c.args.memory.now) c.args.address (length c.args.bytes.now) (sym c.in-Ok.ensures) in
     let at = address-yes c.frame_rules_of-k.result law c.args.s (length c.args.memory.now) y.0 c.args.address (length c.args.bytes.now) y.1 in
     simp (length-take, length-drop) (omega arith)
 
-pub returns-in-Refused : goal.returns-in-Refused
-returns-in-Refused c =
-    let e = write-memory-refused c.args.s c.args.memory.now c.args.address c.args.bytes.now _ (rw c.frame_rules_of-k.ensures at (sym c.judge_write_memory-a.ensures ∙ c.in-Refused.is)) in
+pub returns-in-Err : goal.returns-in-Err
+returns-in-Err c =
+    let e = write-memory-refused c.args.s c.args.memory.now c.args.address c.args.bytes.now _ (rw c.frame_rules_of-k.ensures at (sym c.in-Err.ensures)) in
     record {
       value = sym e.0;
       memory_after = sym e.1;
     }
 
-pub returns-in-Accepted : goal.returns-in-Accepted
+pub returns-in-Ok : goal.returns-in-Ok
 unfolding written_memory
-returns-in-Accepted c =
-    let e = write-memory-accepted c.args.s c.args.memory.now c.args.address c.args.bytes.now (rw c.frame_rules_of-k.ensures at (sym c.judge_write_memory-a.ensures ∙ c.in-Accepted.is)) in
+returns-in-Ok c =
+    let e = write-memory-accepted c.args.s c.args.memory.now c.args.address c.args.bytes.now (rw c.frame_rules_of-k.ensures at (sym c.in-Ok.ensures)) in
     record {
       value = sym e.0;
       memory_after = rw c.put.ensures (lent-tail c.args.memory.now (c.args.address - c.args.s.base) c.args.bytes.now) ∙ sym e.1;

@@ -9,10 +9,7 @@ use mathlib.Core.Path.{◌≡◌, refl, sym, ◌∙◌}
 use Rattle.frame_dump_walk.proofs.put.Goals as goal
 
 pub loop-i-init : goal.loop-i-init
-loop-i-init c = (refl, follow max_frames c.args.k c.args.base c.args.memory.now 0 c.args.pointer, omega arith, refl)
-
-pub bounds-list-i : goal.bounds-list-i
-bounds-list-i c = omega (arith, c.requires.lawful_frames.2, c.loop-i.invariant.3)
+loop-i-init c = (refl, follow max_frames c.args.k c.args.base c.args.memory.now 0 c.args.pointer)
 
 pub overflow_sub-a : goal.overflow_sub-a
 overflow_sub-a c =
@@ -26,12 +23,6 @@ load-a-requires c =
     let all : length xs ≡ c.args.n = counted-length (walk_from max_frames c.args.k c.args.base c.args.memory.now 0 c.args.pointer) c.args.n c.requires.pointer_value in
     (c.requires.lawful_frames.0.word, omega (arith, follow-in c.args.k c.args.base c.args.memory.now c.loop-i.a xs c.loop-i.i (omega (arith, all)) c.loop-i.invariant.1, c.requires.lawful_frames.0.chain))
 
-pub overflow_add-i : goal.overflow_add-i
-overflow_add-i c = omega arith
-
-pub loop-i-smaller : goal.loop-i-smaller
-loop-i-smaller c = omega arith
-
 pub loop-i-preserved : goal.loop-i-preserved
 unfolding load
 loop-i-preserved c =
@@ -39,12 +30,7 @@ loop-i-preserved c =
     let all : length xs ≡ c.args.n = counted-length (walk_from max_frames c.args.k c.args.base c.args.memory.now 0 c.args.pointer) c.args.n c.requires.pointer_value in (
       follow-put c.args.k c.args.base c.args.memory.now c.loop-i.a xs c.loop-i.i (omega (arith, all)) c.loop-i.invariant.1 c.loop-i.list ∙ c.loop-i.invariant.0,
       rw c.load-a.ensures (follow-next c.args.k c.args.base c.args.memory.now c.loop-i.a xs c.loop-i.i (omega (arith, all)) c.loop-i.invariant.1),
-      omega arith,
-      length-set c.loop-i.list c.loop-i.i c.loop-i.a ∙ c.loop-i.invariant.3,
     )
-
-pub shape_of-list : goal.shape_of-list
-shape_of-list c = c.loop-i.invariant.3
 
 pub returns : goal.returns
 returns c =

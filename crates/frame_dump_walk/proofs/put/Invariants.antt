@@ -9,7 +9,4 @@ use Rattle.frame_dump_walk.proofs.put.Given as goal
 
 abbrev pub invariant-loop-i : goal.invariant-loop-i
 invariant-loop-i l = let xs = found_in (walk_from max_frames l.k l.base l.memory 0 l.pointer) in
-    (splice l.list l.i (drop l.i xs) ≡ splice l.initial.list 0 xs) × Follow l.k l.base l.memory l.a (drop l.i xs) × (l.i ≤ l.n) × (length l.list ≡ length l.initial.list)
-
-abbrev pub decreases-loop-i : goal.decreases-loop-i
-decreases-loop-i l = l.n - l.i
+    (splice l.list l.i (drop l.i xs) ≡ splice l.initial.list 0 xs) × Follow l.k l.base l.memory l.a (drop l.i xs)

@@ -13,8 +13,8 @@ pub overflow_sub-k : goal.overflow_sub-k
 overflow_sub-k c =
     omega (arith, gpr-end c.args.k c.requires.lawful c.args.f c.requires.request)
 
-pub load_run-general-requires : goal.load_run-general-requires
-load_run-general-requires c =
+pub load_run-gpr-requires : goal.load_run-gpr-requires
+load_run-gpr-requires c =
     omega (
       arith,
       gpr-end c.args.k c.requires.lawful c.args.f c.requires.request,
@@ -29,8 +29,8 @@ pub overflow_sub-s : goal.overflow_sub-s
 overflow_sub-s c =
     omega (arith, fpr-le c.args.k c.requires.lawful c.args.f c.requires.request c.args.s c.requires.fits)
 
-pub load_run-floating-requires : goal.load_run-floating-requires
-load_run-floating-requires c =
+pub load_run-fpr-requires : goal.load_run-fpr-requires
+load_run-fpr-requires c =
     omega (
       arith,
       fpr-end c.args.k c.requires.lawful c.args.f c.requires.request,
@@ -43,4 +43,4 @@ load_run-floating-requires c =
 pub returns : goal.returns
 unfolding restored
 returns c =
-    rw (c.load_run-general.ensures, c.gpr_at-at.ensures, c.load_run-floating.ensures, c.restore_lr-lr.ensures, c.restore_cr-cr.ensures)
+    rw (c.load_run-gpr.ensures, c.gpr_at-at.ensures, c.load_run-fpr.ensures, c.restore_lr-lr.ensures, c.restore_cr-cr.ensures)

@@ -1,39 +1,34 @@
-use mathlib.Core.Path.{refl, ◌∙◌}
+-- Each turn is that of the definition, and after the last nothing is left. Assumes nothing.
+use mathlib.Core.Path.{◌≡◌, refl, ◌∙◌}
 use native.Mathlib.Omega.{arith}
+use Prim.Native.Nat.{◌+◌, ◌-◌}
 use Rattle.base_words.proofs.Basics.{words-turn}
 use Rattle.frame_saves.specs.Saves.{store}
 use Rattle.frame_saves.proofs.Runs.{save-turn, save-none}
 use Rattle.frame_saves.proofs.save_run.Goals as goal
 
-pub loop-k-init : goal.loop-k-init
-loop-k-init c = (refl, omega arith, omega arith, refl)
-
-pub offset_bounds-xs-i : goal.offset_bounds-xs-i
-offset_bounds-xs-i c = omega arith
+pub loop-i-init : goal.loop-i-init
+loop-i-init c =
+    let e : c.args.n + c.args.c - c.args.n ≡ c.args.c = omega arith in
+    rw e (refl, omega arith, refl)
 
 pub store-requires : goal.store-requires
-store-requires c = omega (arith, words-turn c.args.w c.loop-k.k (omega arith))
+store-requires c = omega (arith, words-turn c.args.w (c.args.n + c.args.c - c.loop-i.i) (omega arith))
 
 pub overflow_add-a : goal.overflow_add-a
-overflow_add-a c = omega (arith, words-turn c.args.w c.loop-k.k (omega arith))
+overflow_add-a c = omega (arith, words-turn c.args.w (c.args.n + c.args.c - c.loop-i.i) (omega arith))
 
-pub overflow_add-i : goal.overflow_add-i
-overflow_add-i c = omega arith
-
-pub overflow_sub-k : goal.overflow_sub-k
-overflow_sub-k c = omega arith
-
-pub loop-k-smaller : goal.loop-k-smaller
-loop-k-smaller c = omega arith
-
-pub loop-k-preserved : goal.loop-k-preserved
+pub loop-i-preserved : goal.loop-i-preserved
 unfolding store
-loop-k-preserved c =
-    (rw c.store.ensures (save-turn c.loop-k.k c.loop-k.memory c.args.xs.now c.loop-k.a c.args.w c.loop-k.i (omega arith) ∙ c.loop-k.invariant.0), omega (arith, words-turn c.args.w c.loop-k.k (omega arith)), omega arith, c.store.auto.s ∙ c.loop-k.invariant.3)
-
-pub shape_of-memory : goal.shape_of-memory
-shape_of-memory c = c.loop-k.invariant.3
+loop-i-preserved c =
+    let k = c.args.n + c.args.c - c.loop-i.i in
+    let e : c.args.n + c.args.c - (c.loop-i.i + 1) ≡ k - 1 = omega arith in
+    rw e (
+      rw c.store.ensures (save-turn k c.loop-i.memory c.args.xs.now c.loop-i.a c.args.w c.loop-i.i (omega arith) ∙ c.loop-i.invariant.0),
+      omega (arith, words-turn c.args.w k (omega arith)),
+      c.store.auto.s ∙ c.loop-i.invariant.2,
+    )
 
 pub returns : goal.returns
 returns c =
-    save-none c.loop-k.k c.loop-k.memory c.args.xs.now c.loop-k.a c.args.w c.loop-k.i (omega arith) ∙ c.loop-k.invariant.0
+    save-none (c.args.n + c.args.c - c.loop-i.i) c.loop-i.memory c.args.xs.now c.loop-i.a c.args.w c.loop-i.i (omega arith) ∙ c.loop-i.invariant.0

@@ -4,10 +4,10 @@ use native.Mathlib.Omega.{arith}
 use mathlib.Core.Path.{sym, ◌∙◌}
 use Rattle.frame_state_checks.proofs.caller_frame.Goals as goal
 
-pub returns-then-d-le1 : goal.returns-then-d-le1
-returns-then-d-le1 c =
+pub returns-then-s-le1 : goal.returns-then-s-le1
+returns-then-s-le1 c =
     c.start_frame.ensures ∙ sym (caller-none c.args.k c.args.s.frames c.args.s.depth (omega arith))
 
-pub returns : goal.returns
-returns c =
+pub returns-else-s-le1 : goal.returns-else-s-le1
+returns-else-s-le1 c =
     sym (caller-some c.args.k c.args.s.frames c.args.s.depth (omega arith))

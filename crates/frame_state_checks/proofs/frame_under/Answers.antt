@@ -8,6 +8,6 @@ pub returns-then-d-eq0 : goal.returns-then-d-eq0
 returns-then-d-eq0 c =
     c.start_frame.ensures ∙ sym (top-none c.args.k c.args.fs c.args.d (omega arith))
 
-pub returns : goal.returns
-returns c =
+pub returns-else-d-eq0 : goal.returns-else-d-eq0
+returns-else-d-eq0 c =
     sym (top-some c.args.k c.args.fs c.args.d (omega arith))

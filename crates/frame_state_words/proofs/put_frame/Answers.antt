@@ -25,4 +25,4 @@ bounds-words-at-6 c = simp length-set (omega arith)
 pub returns : goal.returns
 unfolding frame_words
 returns c =
-    rw (c.flag-2.ensures, c.flag.ensures) (six-words c.args.words.now (records_at + record_words * c.args.i) c.args.f.first_gpr c.args.f.first_fpr (flag c.args.f.saves_cr) c.args.f.locals c.args.f.outgoing (flag c.args.f.leaf))
+    rw (c.from-2.ensures, c.from.ensures) (six-words c.args.words.now (records_at + record_words * c.args.i) c.args.f.first_gpr c.args.f.first_fpr (flag c.args.f.saves_cr) c.args.f.locals c.args.f.outgoing (flag c.args.f.leaf))

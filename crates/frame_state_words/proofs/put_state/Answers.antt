@@ -12,4 +12,4 @@ shape_of-words c = c.put_frames.auto.words ∙ c.put_registers.auto.words ∙ si
 
 pub returns : goal.returns
 returns c =
-    rw (c.put_frames.ensures.0, c.put_registers.ensures.0, c.code_of.ensures) (state-put c.args.words.now c.args.s c.requires c.put_registers.ensures.1 c.put_frames.ensures.1)
+    rw (c.put_frames.ensures.0, c.put_registers.ensures.0, c.from.ensures) (state-put c.args.words.now c.args.s c.requires c.put_registers.ensures.1 c.put_frames.ensures.1)

@@ -9,24 +9,16 @@ use Rattle.frame_word_calls.proofs.enter.Goals as goal
 pub put_changed-requires : goal.put_changed-requires
 put_changed-requires c =
     let outcome = rw (c.state_in-s.ensures, c.frame_in-f.ensures) at c.enter-o.ensures.value in
-    (search rules, rw c.state_in-s.ensures (enter-depth c.args.words.now (length c.args.memory.now) c.args.request.now (sym (ap (λ (o : FrameOutcome). o.answer) outcome) ∙ c.in-Accepted.is)))
+    (search rules, rw c.state_in-s.ensures (enter-depth c.args.words.now (length c.args.memory.now) c.args.request.now (sym (ap (λ (o : FrameOutcome). o.answer) outcome) ∙ c.in_ok-o.was)))
 
-pub returns-in-Refused : goal.returns-in-Refused
-returns-in-Refused c =
+pub returns-in_err-o-clause-words_after : goal.returns-in_err-o-clause-words_after
+returns-in_err-o-clause-words_after c =
     let outcome = rw (c.state_in-s.ensures, c.frame_in-f.ensures) at c.enter-o.ensures.value in
-    let no = sym (ap (λ (o : FrameOutcome). o.answer) outcome) ∙ c.in-Refused.is in
-    record {
-      value = sym no;
-      words_after = enter-no-words c.args.words.now (length c.args.memory.now) c.args.request.now _ no;
-      memory_after = rw (c.state_in-s.ensures, c.frame_in-f.ensures) at c.enter-o.ensures.memory_after;
-    }
+    let no = sym (ap (λ (o : FrameOutcome). o.answer) outcome) ∙ c.in_err-o.was in
+    enter-no-words c.args.words.now (length c.args.memory.now) c.args.request.now _ no
 
-pub returns-in-Accepted : goal.returns-in-Accepted
-returns-in-Accepted c =
+pub returns-clause-words_after : goal.returns-clause-words_after
+returns-clause-words_after c =
     let outcome = rw (c.state_in-s.ensures, c.frame_in-f.ensures) at c.enter-o.ensures.value in
-    let yes = sym (ap (λ (o : FrameOutcome). o.answer) outcome) ∙ c.in-Accepted.is in
-    record {
-      value = sym yes;
-      words_after = rw (outcome, c.state_in-s.ensures) at c.put_changed.ensures ∙ enter-yes-words c.args.words.now (length c.args.memory.now) c.args.request.now yes;
-      memory_after = rw (c.state_in-s.ensures, c.frame_in-f.ensures) at c.enter-o.ensures.memory_after;
-    }
+    let yes = sym (ap (λ (o : FrameOutcome). o.answer) outcome) ∙ c.in_ok-o.was in
+    rw (outcome, c.state_in-s.ensures) at c.put_changed.ensures ∙ enter-yes-words c.args.words.now (length c.args.memory.now) c.args.request.now yes

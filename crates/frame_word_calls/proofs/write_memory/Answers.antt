@@ -5,6 +5,6 @@ use Rattle.frame_word_calls.proofs.write_memory.Goals as goal
 
 pub returns : goal.returns
 returns c = record {
-  value = ap (λ (o : FrameOutcome). o.answer) (rw c.state_in-s.ensures at c.write_memory-o.ensures.value);
-  memory_after = rw c.state_in-s.ensures at c.write_memory-o.ensures.memory_after;
+  value = ap (λ (o : FrameOutcome). o.answer) (rw c.state_in-s.ensures at c.write_memory.ensures.value);
+  memory_after = rw c.state_in-s.ensures at c.write_memory.ensures.memory_after;
 }

@@ -48,5 +48,5 @@ shape_of-kept c = simp length-set refl
 pub returns : goal.returns
 unfolding stored entry_words
 returns c =
-    rw (c.start_word-3.ensures, c.start_word-2.ensures, c.start_word.ensures, c.first_word-2.ensures, c.first_word.ensures)
+    rw (c.from.ensures, c.from-2.ensures, c.start_word-3.ensures, c.start_word-2.ensures, c.start_word.ensures, c.first_word-2.ensures, c.first_word.ensures)
     (stored-overlay c.args.kept.now (entry_words c.args.item c.args.size c.args.value c.args.s))

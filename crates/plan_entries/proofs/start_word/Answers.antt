@@ -5,5 +5,5 @@ use Rattle.plan_entries.proofs.start_word.Goals as goal
 pub returns-then-r-eq0 : goal.returns-then-r-eq0
 returns-then-r-eq0 c = rw (eq-eqb _ _ c.if-r-eq0.true)
 
-pub returns : goal.returns
-returns c = rw (ne_eqb _ _ c.if-r-eq0.false)
+pub returns-else-r-eq0 : goal.returns-else-r-eq0
+returns-else-r-eq0 c = rw (ne_eqb _ _ c.if-r-eq0.false)

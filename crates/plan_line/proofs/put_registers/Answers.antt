@@ -5,12 +5,11 @@ use Rattle.plan_places.proofs.Registers.{length-registers}
 use Rattle.plan_places.specs.Places.{registers_of}
 use lib.Seq.{take_all}
 use native.Mathlib.Omega.{arith}
-use Prim.Native.Nat.{◌-◌}
 use Rattle.plan_line.proofs.put_registers.Goals as goal
 
 pub loop-i-init : goal.loop-i-init
 unfolding places_text
-loop-i-init c = (wrote_nothing _ _, omega arith, omega arith)
+loop-i-init c = (wrote_nothing _ _, omega arith)
 
 pub register_of-p-requires : goal.register_of-p-requires
 register_of-p-requires c = (omega arith, omega arith)
@@ -18,15 +17,9 @@ register_of-p-requires c = (omega arith, omega arith)
 pub put_place-next-requires : goal.put_place-next-requires
 put_place-next-requires c = omega arith
 
-pub overflow_add-i : goal.overflow_add-i
-overflow_add-i c = omega arith
-
-pub loop-i-smaller : goal.loop-i-smaller
-loop-i-smaller c = omega arith
-
 pub loop-i-preserved : goal.loop-i-preserved
 loop-i-preserved c =
-    (wrote-place (registers_of c.args.s) c.loop-i.i (omega (arith, length-registers c.args.s)) c.loop-i.invariant.0 (rw c.register_of-p.ensures at c.put_place-next.ensures.0), omega arith, omega (arith, c.put_place-next.ensures.1, c.loop-i.invariant.2))
+    (wrote-place (registers_of c.args.s) c.loop-i.i (omega (arith, length-registers c.args.s)) c.loop-i.invariant.0 (rw c.register_of-p.ensures at c.put_place-next.ensures.0), omega (arith, c.put_place-next.ensures.1, c.loop-i.invariant.1))
 
 pub shape_of-text : goal.shape_of-text
 shape_of-text c = wrote-length c.loop-i.invariant.0
@@ -34,4 +27,4 @@ shape_of-text c = wrote-length c.loop-i.invariant.0
 pub returns : goal.returns
 returns c =
     let all = take_all c.loop-i.i (registers_of c.args.s) (omega (arith, length-registers c.args.s)) in
-    (rw all at c.loop-i.invariant.0, omega (arith, c.loop-i.invariant.1, c.loop-i.invariant.2))
+    (rw all at c.loop-i.invariant.0, omega (arith, c.loop-i.invariant.1, c.loop-i.auto.i-end))

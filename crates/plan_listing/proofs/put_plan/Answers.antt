@@ -1,11 +1,14 @@
 -- By cases on the outcome.
-use Rattle.plan_listing.specs.Text.{plan_text_of, accepted_text}
+use Rattle.std.proofs.Common.{sym}
+use Rattle.plan_listing.specs.Text.{accepted_text}
 use Rattle.plan_listing.proofs.put_plan.Goals as goal
 
-pub returns-in-Accepted : goal.returns-in-Accepted
-unfolding plan_text_of accepted_text
-returns-in-Accepted c = rw c.in-Accepted.is c.put_lines.ensures
+pub put_lines-requires : goal.put_lines-requires
+put_lines-requires c = c.requires _ c.in-Ok.is
 
-pub returns-in-Refused : goal.returns-in-Refused
-unfolding plan_text_of
-returns-in-Refused c = rw c.in-Refused.is c.put_refusal.ensures
+pub returns-in-Ok : goal.returns-in-Ok
+unfolding accepted_text
+returns-in-Ok c = rw c.in-Ok.is c.put_lines.ensures
+
+pub returns-in-Err : goal.returns-in-Err
+returns-in-Err c = rw c.in-Err.is c.put_refusal.ensures

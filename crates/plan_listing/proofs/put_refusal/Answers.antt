@@ -6,4 +6,4 @@ use Rattle.plan_listing.proofs.put_refusal.Goals as goal
 pub returns : goal.returns
 unfolding refusal_text
 returns c =
-    rw (← c.refusal_number-number.ensures) (wrote_then c.put_labelled-a.ensures.0 (wrote_then c.put_labelled-b.ensures.0 (wrote_then c.put_labelled-d.ensures.0 c.put_byte.ensures)))
+    rw (← c.from-number.ensures) (wrote_then c.put_labelled-a.ensures.0 (wrote_then c.put_labelled-b.ensures.0 (wrote_then c.put_labelled-d.ensures.0 c.put_byte.ensures)))

@@ -8,15 +8,12 @@ use Rattle.plan_plans.specs.Helpers.{measured_by}
 use Rattle.plan_plans.proofs.Calls.{unclear-measured}
 use Rattle.plan_measuring.proofs.judged.Goals as goal
 
-pub overflow_sub-unclear : goal.overflow_sub-unclear
-overflow_sub-unclear c = omega arith
-
 pub returns : goal.returns
 returns c =
     c.no_measure.ensures
     ∙ ap (λ (f : Fault). measure_of (refused_plan f)) c.unclear_fault.ensures
-    ∙ unclear-measured _ _ _ (omega (arith, c.if-unclear-eq0.false))
+    ∙ unclear-measured _ _ _ (omega (arith, c.if-a-eq0.false))
 
-pub returns-then-unclear-eq0 : goal.returns-then-unclear-eq0
+pub returns-then-a-eq0 : goal.returns-then-a-eq0
 unfolding measured_by
-returns-then-unclear-eq0 c = search rules
+returns-then-a-eq0 c = search rules

@@ -8,12 +8,12 @@ use Rattle.plan_plans.proofs.Calls.{measured-refused, measured-called}
 use Rattle.plan_measuring.proofs.measure.Goals as goal
 
 pub measure_call-requires : goal.measure_call-requires
-measure_call-requires c = let k = head-bounded _ _ _ _ _ _ _ _ c.read_head.ensures c.in-Head.is in omega arith
+measure_call-requires c = let k = head-bounded _ _ _ _ _ _ _ _ c.read_head.ensures c.in-Ok.is in omega arith
 
-pub returns-in-Refused : goal.returns-in-Refused
-returns-in-Refused c = c.no_measure.ensures ∙ measured-refused _ _ (signature-refused _ _ c.read_head.ensures _ c.in-Refused.is)
+pub returns-in-Err : goal.returns-in-Err
+returns-in-Err c = c.no_measure.ensures ∙ measured-refused _ _ (signature-refused _ _ c.read_head.ensures _ c.in-Err.is)
 
-pub returns-in-Head : goal.returns-in-Head
-returns-in-Head c =
+pub returns-in-Ok : goal.returns-in-Ok
+returns-in-Ok c =
     c.measure_call.ensures
-    ∙ measured-called _ _ _ (measured-arguments _ _ c.read_head.ensures _ _ _ _ _ _ c.in-Head.is) (sym (unclear-arguments _ _ c.read_head.ensures _ _ _ _ _ _ c.in-Head.is))
+    ∙ measured-called _ _ _ (measured-arguments _ _ c.read_head.ensures _ _ _ _ _ _ c.in-Ok.is) (sym (unclear-arguments _ _ c.read_head.ensures _ _ _ _ _ _ c.in-Ok.is))

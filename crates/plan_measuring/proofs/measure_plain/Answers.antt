@@ -28,7 +28,7 @@ read_item-requires c = omega arith
 
 pub advance-c-requires : goal.advance-c-requires
 advance-c-requires c =
-    let a = item-answered _ _ _ _ _ _ _ _ _ (omega arith) c.read_item.ensures c.in-Item.is in (
+    let a = item-answered _ _ _ _ _ _ _ _ _ (omega arith) c.read_item.ensures c.in-Ok.is in (
       rw c.call_rules_of-rules.ensures (rules-lawful c.args.convention),
       reached-roomy _ _ _ _ (omega (arith, c.loop-place.invariant.1.so_far.turn.few)) c.loop-place.invariant.1.so_far.reached,
       rw c.size_of-size.ensures a.sized.small,
@@ -36,33 +36,33 @@ advance-c-requires c =
 
 pub overflow_add-values : goal.overflow_add-values
 overflow_add-values c =
-    let a = item-answered _ _ _ _ _ _ _ _ _ (omega arith) c.read_item.ensures c.in-Item.is in
+    let a = item-answered _ _ _ _ _ _ _ _ _ (omega arith) c.read_item.ensures c.in-Ok.is in
     omega (arith, a.sized.small, c.loop-place.invariant.1.so_far.reached.small, c.loop-place.invariant.1.so_far.turn.few, c.size_of-size.ensures)
 
 pub overflow_add-count : goal.overflow_add-count
 overflow_add-count c = omega (arith, c.loop-place.invariant.1.so_far.turn.few)
 
 pub overflow_add-items : goal.overflow_add-items
-overflow_add-items c = let a = item-answered _ _ _ _ _ _ _ _ _ (omega arith) c.read_item.ensures c.in-Item.is in omega arith
+overflow_add-items c = let a = item-answered _ _ _ _ _ _ _ _ _ (omega arith) c.read_item.ensures c.in-Ok.is in omega arith
 
 pub loop-place-smaller : goal.loop-place-smaller
-loop-place-smaller c = let a = item-answered _ _ _ _ _ _ _ _ _ (omega arith) c.read_item.ensures c.in-Item.is in omega arith
+loop-place-smaller c = let a = item-answered _ _ _ _ _ _ _ _ _ (omega arith) c.read_item.ensures c.in-Ok.is in omega arith
 
 pub loop-place-preserved : goal.loop-place-preserved
 loop-place-preserved c =
     rw (c.advance-c.ensures, c.size_of-size.ensures, c.call_rules_of-rules.ensures)
-    (sizing-more _ _ _ _ _ _ _ _ _ _ _ (rw c.call_rules_of-rules.ensures at c.loop-place.invariant) (rules-lawful c.args.convention) c.loop-place-test.true c.if-count-eq-MAX_ARGUMENTS.false _ c.read_item.ensures _ _ _ c.in-Item.is)
+    (sizing-more _ _ _ _ _ _ _ _ _ _ _ (rw c.call_rules_of-rules.ensures at c.loop-place.invariant) (rules-lawful c.args.convention) c.loop-place-test.true c.if-count-eq-MAX_ARGUMENTS.false _ c.read_item.ensures _ _ _ c.in-Ok.is)
 
-pub overflow_add-earlier-in-Refused : goal.overflow_add-earlier-in-Refused
-overflow_add-earlier-in-Refused c = omega arith
+pub overflow_add-earlier-in-Err : goal.overflow_add-earlier-in-Err
+overflow_add-earlier-in-Err c = omega arith
 
 pub later_by-requires : goal.later_by-requires
-later_by-requires c = let a = fault-answered _ _ _ _ _ _ _ (omega arith) c.read_item.ensures c.in-Refused.is in omega arith
+later_by-requires c = let a = fault-answered _ _ _ _ _ _ _ (omega arith) c.read_item.ensures c.in-Err.is in omega arith
 
-pub returns-in-Refused : goal.returns-in-Refused
-returns-in-Refused c =
-    let refused-by = turn-no _ _ _ _ _ _ _ _ c.loop-place.invariant.1.so_far.turn c.loop-place-test.true c.if-count-eq-MAX_ARGUMENTS.false _ c.read_item.ensures _ c.in-Refused.is in
-    c.no_measure-in-Refused.ensures ∙ ap (λ (f : Fault). measure_of (refused_plan f)) (c.later_by.ensures ∙ later-later _ _ _) ∙ measure-no _ _ _ _ _ _ _ refused-by
+pub returns-in-Err : goal.returns-in-Err
+returns-in-Err c =
+    let refused-by = turn-no _ _ _ _ _ _ _ _ c.loop-place.invariant.1.so_far.turn c.loop-place-test.true c.if-count-eq-MAX_ARGUMENTS.false _ c.read_item.ensures _ c.in-Err.is in
+    c.no_measure-in-Err.ensures ∙ ap (λ (f : Fault). measure_of (refused_plan f)) (c.later_by.ensures ∙ later-later _ _ _) ∙ measure-no _ _ _ _ _ _ _ refused-by
 
 pub overflow_add-counted : goal.overflow_add-counted
 overflow_add-counted c = omega arith

@@ -1,5 +1,6 @@
 -- The sizes by the reading alone have its outcome.
-use borrow.Author.Rules.{rules}
+use Rattle.std.proofs.Common.{Err}
+use Rattle.std.proofs.lemmas.Result.{err_from_is_err_and}
 use native.Mathlib.Omega.{arith}
 use mathlib.Core.Path.{ap, ◌∙◌}
 use Rattle.sig_signatures.proofs.Laws.{signature-refused}
@@ -9,12 +10,14 @@ use Rattle.plan_plans.proofs.Measures.{measured-arguments}
 use Rattle.plan_plans.proofs.Answers.{outcome-refused, outcome-read}
 use Rattle.plan_measuring.proofs.outcome_of.Goals as goal
 
-pub measure_plain-m-requires : goal.measure_plain-m-requires
-measure_plain-m-requires c = let k = head-bounded _ _ _ _ _ _ _ _ c.read_head.ensures c.in-Head.is in omega arith
+pub measure_plain-requires : goal.measure_plain-requires
+measure_plain-requires c = let k = head-bounded _ _ _ _ _ _ _ _ c.read_head.ensures c.in_ok-h.was in omega arith
 
-pub returns-in-Refused : goal.returns-in-Refused
-returns-in-Refused c = outcome-refused _ _ (signature-refused _ _ c.read_head.ensures _ c.in-Refused.is)
+pub returns-in_err-h : goal.returns-in_err-h
+returns-in_err-h c =
+    let (y, is, same) = err_from_is_err_and c.from_residual.result c.from_residual.ensures.1 in
+    is ∙ ap Err same ∙ outcome-refused _ _ (signature-refused _ _ c.read_head.ensures _ c.in_err-h.was)
 
-pub returns-in-Head : goal.returns-in-Head
-returns-in-Head c =
-    ap (λ (m : Measured). m.outcome) (c.measure_plain-m.ensures ∙ measured-arguments _ _ c.read_head.ensures _ _ _ _ _ _ c.in-Head.is) ∙ outcome-read _
+pub returns : goal.returns
+returns c =
+    ap (λ (m : Measured). m.outcome) (c.measure_plain.ensures ∙ measured-arguments _ _ c.read_head.ensures _ _ _ _ _ _ c.in_ok-h.was) ∙ outcome-read _

@@ -4,4 +4,4 @@ use Rattle.plan_placing.proofs.area_of.Goals as goal
 
 pub returns : goal.returns
 unfolding area_of
-returns c = rw c.least_area_of.ensures at c.larger.ensures
+returns c = rw c.least_area_of.ensures at c.max.ensures

@@ -8,7 +8,7 @@ pub returns-then-hidden_for : goal.returns-then-hidden_for
 unfolding result_of placed
 returns-then-hidden_for c =
     let h = sym c.hidden_for.ensures ∙ c.if-hidden_for.true in
-    simp (rw c.call_rules_of-r.ensures at h, c.hidden_step-p.ensures)
+    simp (rw c.call_rules_of-r.ensures at h, c.hidden_step.ensures)
 
 pub step-p-requires : goal.step-p-requires
 step-p-requires c =

@@ -10,5 +10,5 @@ returns-then-unclear-ne0 c = unclear-kept _ _ _ (omega arith)
 pub returns-then-unclear_for : goal.returns-then-unclear_for
 returns-then-unclear_for c = unclear-found _ _ _ (omega arith) (sym c.unclear_for.ensures ∙ c.if-unclear_for.true)
 
-pub returns : goal.returns
-returns c = unclear-none _ _ _ (omega arith) (sym c.unclear_for.ensures ∙ c.if-unclear_for.false)
+pub returns-else-unclear_for : goal.returns-else-unclear_for
+returns-else-unclear_for c = unclear-none _ _ _ (omega arith) (sym c.unclear_for.ensures ∙ c.if-unclear_for.false)

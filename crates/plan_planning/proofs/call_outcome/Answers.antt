@@ -6,4 +6,4 @@ use Rattle.plan_planning.proofs.call_outcome.Goals as goal
 pub returns-then-always_clear : goal.returns-then-always_clear
 returns-then-always_clear c =
     clear-outcome _ _ c.requires
-    (none-unclear _ _ (rw c.call_rules_of-rules.ensures at (sym c.always_clear.ensures ∙ c.if-always_clear.true)) _ _ _)
+    (none-unclear _ _ (rw c.call_rules_of.ensures at (sym c.always_clear.ensures ∙ c.if-always_clear.true)) _ _ _)

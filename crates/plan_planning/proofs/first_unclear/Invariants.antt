@@ -1,12 +1,7 @@
 -- The loop looks at one argument a turn; what it found and what is left give the first of all (`Clearing`).
-use Prim.Native.Nat.{◌-◌}
 use Rattle.sig_signatures.specs.Types.{types_in}
 use Rattle.plan_plans.proofs.Calls.{Clearing}
-use borrow.Author.Rules.{rules}
 use Rattle.plan_planning.proofs.first_unclear.Given as goal
 
 abbrev pub invariant-loop-i : goal.invariant-loop-i
-invariant-loop-i l = Clearing l.convention l.rules l.initial.c (types_in l.g) l.c l.unclear l.i
-
-abbrev pub decreases-loop-i : goal.decreases-loop-i
-decreases-loop-i l = l.count - l.i
+invariant-loop-i l = Clearing l.fn.g.convention l.rules l.initial.c (types_in l.fn.g) l.c l.unclear l.i

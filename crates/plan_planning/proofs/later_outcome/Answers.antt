@@ -1,8 +1,8 @@
 -- The reading's outcome where no argument is unclear; else 29 at the first that is.
+use Rattle.std.proofs.Common.{Err}
 use mathlib.Core.Path.{◌≡◌, sym, ap, ◌∙◌}
 use native.Mathlib.Omega.{arith}
 use Prim.Native.Nat.{suc, ◌-◌}
-use Rattle.sig_signatures.specs.declared.Outcome.{Outcome}
 use Rattle.sig_signatures.proofs.Types.{answer-plannable}
 use Rattle.plan_plans.proofs.Calls.{clear-outcome, unclear-outcome}
 use Rattle.plan_planning.proofs.later_outcome.Goals as goal
@@ -19,5 +19,5 @@ overflow_sub-unclear c = omega arith
 pub returns : goal.returns
 returns c =
     let some : c.first_unclear-unclear.result ≡ suc (c.first_unclear-unclear.result - 1) = omega (arith, c.if-unclear-eq0.false) in
-    ap Outcome.Refused c.unclear_fault-fault.ensures
+    ap Err c.unclear_fault.ensures
     ∙ unclear-outcome _ _ _ c.requires (sym c.first_unclear-unclear.ensures ∙ some)

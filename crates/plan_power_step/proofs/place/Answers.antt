@@ -6,8 +6,8 @@ use Rattle.plan_power_step.proofs.place.Goals as goal
 pub overflow_mul-word-2 : goal.overflow_mul-word-2
 overflow_mul-word-2 c = omega (arith, words-split c.args.word c.args.a.share.memory c.args.a.count (omega arith))
 
-pub overflow_add-stack : goal.overflow_add-stack
-overflow_add-stack c = omega (arith, words-split c.args.word c.args.a.share.memory c.args.a.count (omega arith))
+pub overflow_add-c : goal.overflow_add-c
+overflow_add-c c = omega (arith, words-split c.args.word c.args.a.share.memory c.args.a.count (omega arith))
 
 pub overflow_mul-word-3 : goal.overflow_mul-word-3
 overflow_mul-word-3 c = omega (arith, words-split c.args.word c.args.a.share.memory c.args.a.count (omega arith))

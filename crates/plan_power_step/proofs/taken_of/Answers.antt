@@ -8,8 +8,8 @@ use Rattle.plan_power_step.proofs.taken_of.Goals as goal
 pub returns : goal.returns
 unfolding power_share
 returns c =
-    let s = share-shared c.args.f.ellipsis c.fprs_of.result (14 - c.args.c.floating) c.words_of-n.result c.smaller-k.result (omega arith) in (
+    let s = share-shared c.args.f.ellipsis c.fprs_of.result (14 - c.args.c.floating) c.words_of-n.result c.min-k.result (omega arith) in (
       c.words_of-n.ensures.0,
-      simp (c.fprs_of.ensures.0, c.smaller-k.ensures, c.words_of-n.ensures.0) at c.share_of-s.ensures,
-      record { whole = omega arith; held = c.smaller-k.ensures; shared = rw c.share_of-s.ensures s },
+      simp (c.fprs_of.ensures.0, c.min-k.ensures, c.words_of-n.ensures.0) at c.share_of-s.ensures,
+      record { whole = omega arith; held = c.min-k.ensures; shared = rw c.share_of-s.ensures s },
     )

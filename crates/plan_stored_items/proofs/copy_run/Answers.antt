@@ -6,4 +6,4 @@ use Rattle.plan_stored_items.proofs.copy_run.Goals as goal
 
 pub returns : goal.returns
 unfolding copy_run
-returns c = copy_run_lem c.args.s c.requires _ (rw (c.flag-count.ensures, flag-pick c.args.s.indirect))
+returns c = copy_run_lem c.args.s c.requires _ (rw (c.from-count.ensures, flag-pick c.args.s.indirect))

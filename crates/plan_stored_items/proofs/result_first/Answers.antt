@@ -10,4 +10,4 @@ pub returns-in-Registers : goal.returns-in-Registers
 returns-in-Registers c = result-first-run c.args.x c.requires _ (c.register_run.ensures ∙ rw c.in-Registers.is)
 
 pub returns-in-Hidden : goal.returns-in-Hidden
-returns-in-Hidden c = result-first-run c.args.x c.requires _ (rw c.in-Hidden.is)
+returns-in-Hidden c = result-first-run c.args.x c.requires _ (rw (c.in-Hidden.is, c.no_places-in-Hidden.ensures))

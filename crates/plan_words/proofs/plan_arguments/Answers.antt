@@ -41,7 +41,7 @@ unclear_after-unclear-requires c =
 
 pub step-p-requires : goal.step-p-requires
 step-p-requires c =
-    let a = item-answered _ _ _ _ _ _ _ _ _ (omega arith) c.read_item.ensures c.in-Item.is in (
+    let a = item-answered _ _ _ _ _ _ _ _ _ (omega arith) c.read_item.ensures c.in-Ok.is in (
       rw (c.with_ellipsis-rules.ensures, c.call_rules_of.ensures) (lawful-marked _ _ (rules-lawful c.args.convention)),
       reached-roomy _ _ _ _ (omega (arith, c.loop-next.invariant.sizes.turn.few)) c.loop-next.invariant.sizes.reached,
       rw c.size_of-size.ensures a.sized.small,
@@ -49,7 +49,7 @@ step-p-requires c =
 
 pub keep_entry-requires : goal.keep_entry-requires
 keep_entry-requires c =
-    let a = item-answered _ _ _ _ _ _ _ _ _ (omega arith) c.read_item.ensures c.in-Item.is in
+    let a = item-answered _ _ _ _ _ _ _ _ _ (omega arith) c.read_item.ensures c.in-Ok.is in
     let room = c.requires.4 (c.loop-next.count + 1) (omega (arith, c.loop-next.invariant.sizes.turn.few, c.if-count-eq-MAX_ARGUMENTS.false)) (omega (arith, c.loop-next.invariant.sizes.turn.apart, a.on, a.inside)) in (
       omega (arith, room, keeping-length _ _ _ _ _ _ _ _ _ _ _ _ _ _ c.loop-next.invariant),
       omega (arith, c.loop-next-test.true, c.requires.1, c.requires.2),
@@ -59,7 +59,7 @@ keep_entry-requires c =
 
 pub overflow_add-values : goal.overflow_add-values
 overflow_add-values c =
-    let a = item-answered _ _ _ _ _ _ _ _ _ (omega arith) c.read_item.ensures c.in-Item.is in
+    let a = item-answered _ _ _ _ _ _ _ _ _ (omega arith) c.read_item.ensures c.in-Ok.is in
     omega (arith, a.sized.small, c.loop-next.invariant.sizes.reached.small, c.loop-next.invariant.sizes.turn.few, c.size_of-size.ensures)
 
 pub overflow_add-count : goal.overflow_add-count
@@ -67,35 +67,35 @@ overflow_add-count c = omega (arith, c.loop-next.invariant.sizes.turn.few)
 
 pub overflow_add-items : goal.overflow_add-items
 overflow_add-items c =
-    let a = item-answered _ _ _ _ _ _ _ _ _ (omega arith) c.read_item.ensures c.in-Item.is in
+    let a = item-answered _ _ _ _ _ _ _ _ _ (omega arith) c.read_item.ensures c.in-Ok.is in
     omega (arith, c.loop-next.invariant.sizes.turn.third, c.loop-next.invariant.sizes.turn.within, a.third, a.inside, c.requires.1, c.requires.2)
 
 pub loop-next-smaller : goal.loop-next-smaller
 loop-next-smaller c =
-    let a = item-answered _ _ _ _ _ _ _ _ _ (omega arith) c.read_item.ensures c.in-Item.is in
+    let a = item-answered _ _ _ _ _ _ _ _ _ (omega arith) c.read_item.ensures c.in-Ok.is in
     omega (arith, a.on, a.inside)
 
 pub loop-next-preserved : goal.loop-next-preserved
 unfolding placed
 loop-next-preserved c =
     rw (c.keep_entry.ensures, c.step-p.ensures, c.unclear_after-unclear.ensures, c.size_of-size.ensures, c.with_ellipsis-rules.ensures, c.call_rules_of.ensures)
-    (keeping-more _ _ _ _ _ _ _ _ _ _ _ _ _ _ c.loop-next.invariant c.loop-next-test.true c.if-count-eq-MAX_ARGUMENTS.false _ c.read_item.ensures _ _ _ c.in-Item.is)
+    (keeping-more _ _ _ _ _ _ _ _ _ _ _ _ _ _ c.loop-next.invariant c.loop-next-test.true c.if-count-eq-MAX_ARGUMENTS.false _ c.read_item.ensures _ _ _ c.in-Ok.is)
 
-pub overflow_add-earlier-in-Refused : goal.overflow_add-earlier-in-Refused
-overflow_add-earlier-in-Refused c = omega (arith, c.loop-next.invariant.sizes.turn.third, c.loop-next.invariant.sizes.turn.within)
+pub overflow_add-earlier-in-Err : goal.overflow_add-earlier-in-Err
+overflow_add-earlier-in-Err c = omega (arith, c.loop-next.invariant.sizes.turn.third, c.loop-next.invariant.sizes.turn.within)
 
 pub later_by-requires : goal.later_by-requires
 later_by-requires c =
-    let a = fault-answered _ _ _ _ _ _ _ (omega arith) c.read_item.ensures c.in-Refused.is in
+    let a = fault-answered _ _ _ _ _ _ _ (omega arith) c.read_item.ensures c.in-Err.is in
     omega (arith, a, c.loop-next.invariant.sizes.turn.third, c.loop-next.invariant.sizes.turn.within)
 
-pub shape_of-kept-in-Refused : goal.shape_of-kept-in-Refused
-shape_of-kept-in-Refused c = keeping-length _ _ _ _ _ _ _ _ _ _ _ _ _ _ c.loop-next.invariant
+pub shape_of-kept-in-Err : goal.shape_of-kept-in-Err
+shape_of-kept-in-Err c = keeping-length _ _ _ _ _ _ _ _ _ _ _ _ _ _ c.loop-next.invariant
 
-pub returns-in-Refused : goal.returns-in-Refused
-returns-in-Refused c =
-    let stopped = turn-no _ _ _ _ _ _ _ _ c.loop-next.invariant.sizes.turn c.loop-next-test.true c.if-count-eq-MAX_ARGUMENTS.false _ c.read_item.ensures _ c.in-Refused.is in record {
-      value = c.no_plan-in-Refused.ensures ∙ ap (λ (f : Fault). planned_of (refused_plan f)) (c.later_by.ensures ∙ later-later _ _ _) ∙ plan-no _ _ _ _ _ _ _ _ stopped;
+pub returns-in-Err : goal.returns-in-Err
+returns-in-Err c =
+    let stopped = turn-no _ _ _ _ _ _ _ _ c.loop-next.invariant.sizes.turn c.loop-next-test.true c.if-count-eq-MAX_ARGUMENTS.false _ c.read_item.ensures _ c.in-Err.is in record {
+      value = c.no_plan-in-Err.ensures ∙ ap (λ (f : Fault). planned_of (refused_plan f)) (c.later_by.ensures ∙ later-later _ _ _) ∙ plan-no _ _ _ _ _ _ _ _ stopped;
       places_after = rows-no _ _ _ _ _ _ c.args.earlier _ stopped _;
     }
 

@@ -14,21 +14,21 @@ use Rattle.plan_words.proofs.plan_words.Goals as goal
 
 pub plan_part-requires : goal.plan_part-requires
 plan_part-requires c =
-    let k = head-bounded _ _ _ _ _ _ _ _ c.read_head.ensures c.in-Head.is in
+    let k = head-bounded _ _ _ _ _ _ _ _ c.read_head.ensures c.in-Ok.is in
     (omega arith, omega arith, k.short, omega arith)
 
-pub returns-in-Refused : goal.returns-in-Refused
+pub returns-in-Err : goal.returns-in-Err
 unfolding called plan_answer
-returns-in-Refused c =
-    let none = signature-refused _ _ c.read_head.ensures _ c.in-Refused.is in
+returns-in-Err c =
+    let none = signature-refused _ _ c.read_head.ensures _ c.in-Err.is in
     record {
       value = c.no_plan.ensures ∙ rw none;
       places_after = tabled-nothing c.args.places.now ∙ ap (overlay_whole c.args.places.now) (no-entries _ _ none);
     }
 
-pub returns-in-Head : goal.returns-in-Head
-returns-in-Head c =
-    let unclear = sym (unclear-arguments _ _ c.read_head.ensures _ _ _ _ _ _ c.in-Head.is) in record {
-      value = c.plan_part.ensures.value ∙ planned-called _ _ _ (sym (ap planned_of (plan-arguments _ _ c.read_head.ensures _ _ _ _ _ _ c.in-Head.is))) unclear;
-      places_after = c.plan_part.ensures.places_after ∙ ap (overlay_whole c.args.places.now) (rows-called _ _ _ (rows-entries _ _ c.read_head.ensures _ _ _ _ _ _ c.in-Head.is) unclear);
+pub returns-in-Ok : goal.returns-in-Ok
+returns-in-Ok c =
+    let unclear = sym (unclear-arguments _ _ c.read_head.ensures _ _ _ _ _ _ c.in-Ok.is) in record {
+      value = c.plan_part.ensures.value ∙ planned-called _ _ _ (sym (ap planned_of (plan-arguments _ _ c.read_head.ensures _ _ _ _ _ _ c.in-Ok.is))) unclear;
+      places_after = c.plan_part.ensures.places_after ∙ ap (overlay_whole c.args.places.now) (rows-called _ _ _ (rows-entries _ _ c.read_head.ensures _ _ _ _ _ _ c.in-Ok.is) unclear);
     }

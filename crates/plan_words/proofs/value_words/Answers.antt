@@ -1,5 +1,6 @@
 -- By the type: each way has its law.
 use mathlib.Core.Path.{sym, ◌∙◌}
+use mathlib.Core.Logic.{inl, inr}
 use Rattle.base_conventions.specs.Numbers.{word_bytes}
 use Rattle.sig_types.specs.Sizes.{integer_size}
 use Rattle.plan_words.proofs.Returned.{single-result, double-result, long-power, long-z, struct-result, integer-result}
@@ -9,10 +10,10 @@ pub returns-in-Integer : goal.returns-in-Integer
 returns-in-Integer c = rw (c.in-Integer.is, c.integer_words-gprs.ensures, c.integer_size.ensures, c.word_bytes.ensures, c.cursor_of-k.ensures) (integer-result c.args.c c.in-Integer.i)
 
 pub returns-in-Single : goal.returns-in-Single
-returns-in-Single c = rw (c.in-Float.is, c.in-Single.is, c.cursor_of-k.ensures) (single-result _ _)
-
-pub returns-in-Double : goal.returns-in-Double
-returns-in-Double c = rw (c.in-Float.is, c.in-Double.is, c.cursor_of-k.ensures) (double-result _ _)
+returns-in-Single c = elim c.in-Single.is [
+  | inl e ↦ rw (c.in-Float.is, e, c.cursor_of-k.ensures) (single-result _ _)
+  | inr e ↦ rw (c.in-Float.is, e, c.cursor_of-k.ensures) (double-result _ _)
+]
 
 pub returns-in-Power : goal.returns-in-Power
 returns-in-Power c =

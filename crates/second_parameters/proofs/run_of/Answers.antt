@@ -5,5 +5,5 @@ use Rattle.second_parameters.proofs.run_of.Goals as goal
 pub returns-then-count-eq0 : goal.returns-then-count-eq0
 returns-then-count-eq0 c = run_none _ _ c.if-count-eq0.true
 
-pub returns : goal.returns
-returns c = run-some _ _ c.if-count-eq0.false
+pub returns-else-count-eq0 : goal.returns-else-count-eq0
+returns-else-count-eq0 c = run-some _ _ c.if-count-eq0.false

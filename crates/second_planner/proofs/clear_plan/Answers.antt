@@ -16,8 +16,8 @@ accepted_plan-requires c = rw c.requires.0 (answer-plannable _)
 pub returns-then-straddling-eq0 : goal.returns-then-straddling-eq0
 returns-then-straddling-eq0 c = c.accepted_plan.ensures ∙ answer-clear _ _ _ c.requires.0 c.requires.1 (sym c.straddling_in-straddling.ensures ∙ c.if-straddling-eq0.true)
 
-pub returns : goal.returns
-returns c =
+pub returns-else-straddling-eq0 : goal.returns-else-straddling-eq0
+returns-else-straddling-eq0 c =
     let some : c.straddling_in-straddling.result ≡ suc (c.straddling_in-straddling.result - 1) = omega (arith, c.if-straddling-eq0.false) in
     c.no_plan.ensures
     ∙ ap no_plan c.unclear_fault.ensures

@@ -2,4 +2,4 @@
 use Rattle.second_planner.proofs.no_plan.Goals as goal
 
 pub returns : goal.returns
-returns c = rw c.no_parameters-none.ensures
+returns c = rw c.no_parameters-parameters.ensures

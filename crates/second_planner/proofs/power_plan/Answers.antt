@@ -6,8 +6,8 @@ use Rattle.second_structure.proofs.Turns.{fields-bounded, over-table}
 use Rattle.second_planner.specs.Answer.{power_plan, power_parameters}
 use Rattle.second_planner.proofs.power_plan.Goals as goal
 
-pub lay_registers-laid-requires : goal.lay_registers-laid-requires
-lay_registers-laid-requires c =
+pub lay_registers-parameters-requires : goal.lay_registers-parameters-requires
+lay_registers-parameters-requires c =
     (c.requires.1, c.requires.2, rw c.lay_out-s.ensures.0 (fields-bounded _ _ _ _ (rw c.lay_out-s.ensures.0 at c.lay_out-s.ensures.1)))
 
 pub returns : goal.returns
@@ -15,4 +15,4 @@ unfolding power_plan power_parameters
 returns c =
     let many = length_types c.args.g.count c.args.g.arguments c.requires.2.room in
     let same = over-table c.args.g.ellipsis c.args.paired c.args.g.convention c.args.word 0 (hidden_words (power_hidden c.args.g.result)) (types_in c.args.g) in
-    rw (c.lay_registers-laid.ensures, c.area_bytes-area.ensures, c.lay_out-s.ensures.0, c.hidden_words.ensures.0, c.power_hidden.ensures, c.values_in-values.ensures, c.power_returned-result.ensures, many, same)
+    rw (c.lay_registers-parameters.ensures, c.area_bytes.ensures, c.lay_out-s.ensures.0, c.hidden_words.ensures.0, c.power_hidden-hidden.ensures, c.values_in.ensures, c.power_returned.ensures, many, same)

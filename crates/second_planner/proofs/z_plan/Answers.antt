@@ -7,4 +7,4 @@ pub returns : goal.returns
 unfolding z_plan
 returns c =
     let many = length_types c.args.g.count c.args.g.arguments c.requires.room in
-    rw (c.scan_all-s.ensures, c.z_hidden.ensures, c.values_in-values.ensures, c.z_returned-result.ensures, many)
+    rw (c.scan_all-s.ensures, c.z_hidden.ensures, c.values_in.ensures, c.z_returned.ensures, many)

@@ -10,5 +10,5 @@ overflow_add-result c = omega (arith, c.round_up-start.ensures)
 pub returns-then-reference : goal.returns-then-reference
 returns-then-reference c = rw (c.run_of.ensures, c.round_up-start.ensures, c.if-reference.true)
 
-pub returns : goal.returns
-returns c = rw (c.no_run-none.ensures, c.if-reference.false)
+pub returns-else-reference : goal.returns-else-reference
+returns-else-reference c = rw c.if-reference.false

@@ -1,6 +1,5 @@
 -- Each part is the definition's.
-use Rattle.second_parameters.specs.Values.{run_of}
 use Rattle.second_slot_scan.proofs.in_general.Goals as goal
 
 pub returns : goal.returns
-returns c = rw (c.run_of.ensures, c.no_run-none.ensures)
+returns c = rw c.run_of.ensures

@@ -2,4 +2,4 @@
 use Rattle.second_slot_scan.proofs.in_other.Goals as goal
 
 pub returns : goal.returns
-returns c = rw (c.run_of-word.ensures, c.no_run-none.ensures)
+returns c = rw c.run_of-word.ensures

@@ -1,6 +1,6 @@
 -- Each part is the definition's.
 use mathlib.Core.Path.{◌∙◌}
-use Rattle.second_slot_scan.specs.Slots.{slot_by, slot_of}
+use Rattle.second_slot_scan.specs.Slots.{slot_of}
 use Rattle.second_slot_scan.proofs.slot_for.Goals as goal
 
 pub returns : goal.returns

@@ -6,6 +6,6 @@ pub returns-then-hidden : goal.returns-then-hidden
 unfolding initial
 returns-then-hidden c = rw c.if-hidden.true
 
-pub returns : goal.returns
+pub returns-else-hidden : goal.returns-else-hidden
 unfolding initial
-returns c = rw c.if-hidden.false
+returns-else-hidden c = rw c.if-hidden.false

@@ -1,5 +1,4 @@
 -- Each part is the definition's.
-use Rattle.second_parameters.specs.Values.{run_of}
 use Rattle.second_structure.proofs.field_bytes.Goals as goal
 
 pub returns : goal.returns

@@ -4,4 +4,4 @@ use Rattle.second_structure.proofs.over_floats.Goals as goal
 
 pub returns : goal.returns
 unfolding over_floats
-returns c = rw (c.field_bytes.ensures, c.no_run-none.ensures)
+returns c = rw c.field_bytes.ensures

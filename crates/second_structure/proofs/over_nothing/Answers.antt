@@ -4,4 +4,4 @@ use Rattle.second_structure.proofs.over_nothing.Goals as goal
 
 pub returns : goal.returns
 unfolding over_nothing
-returns c = rw (c.field_bytes-field.ensures, c.no_run-none.ensures)
+returns c = rw c.field_bytes-field.ensures

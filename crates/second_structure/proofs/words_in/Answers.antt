@@ -1,7 +1,6 @@
 -- The definition's number.
 use native.Mathlib.Omega.{arith}
 use Rattle.second_structure.proofs.Laws.{words-few}
-use Rattle.base_words.specs.Basics.{round_up}
 use Rattle.second_structure.specs.Structure.{words_in}
 use Rattle.second_structure.proofs.words_in.Goals as goal
 

@@ -13,7 +13,7 @@ returns c =
     rw (
       c.size_of-size.ensures,
       c.round_up-start.ensures,
-      c.larger-most.ensures,
-      c.equivalent_after-equivalent.ensures,
+      c.max.ensures,
+      c.equivalent_after.ensures,
       c.align_of-a.ensures,
     )

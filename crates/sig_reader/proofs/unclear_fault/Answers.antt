@@ -7,4 +7,4 @@ use mathlib.Core.Path.{ap, ◌∙◌}
 use Rattle.sig_reader.proofs.unclear_fault.Goals as goal
 
 pub returns : goal.returns
-returns c = ap (λ (n : ℕ). fault Refusal.UnclearPlace n 0) (c.item_in-place.ensures ∙ ap item_in c.argument_at-a.ensures)
+returns c = ap (λ (n : ℕ). fault Refusal.UnclearPlace n 0) (c.item_in-place.ensures ∙ ap item_in c.argument_at.ensures)

@@ -5,10 +5,10 @@ use Rattle.sig_stepping.proofs.Laws.{body-inside, start-found, start-refused}
 use Rattle.sig_stepping.proofs.body_start.Goals as goal
 
 pub overflow_add-result : goal.overflow_add-result
-overflow_add-result c = let i = body-inside _ _ _ _ (sym c.body_in.ensures ∙ c.in-To.is) in search rules
+overflow_add-result c = let i = body-inside _ _ _ _ (sym c.body_in.ensures ∙ c.in-Ok.is) in search rules
 
-pub returns-in-To : goal.returns-in-To
-returns-in-To c = start-found _ _ _ _ c.body_in.ensures _ c.in-To.is
+pub returns-in-Ok : goal.returns-in-Ok
+returns-in-Ok c = start-found _ _ _ _ c.body_in.ensures _ c.in-Ok.is
 
-pub returns-in-Refused : goal.returns-in-Refused
-returns-in-Refused c = start-refused _ _ _ _ c.body_in.ensures _ c.in-Refused.is
+pub returns-in-Err : goal.returns-in-Err
+returns-in-Err c = start-refused _ _ _ _ c.body_in.ensures _ c.in-Err.is

@@ -10,8 +10,8 @@ use Rattle.sig_whole.proofs.read_arguments.Goals as goal
 pub loop-next-init : goal.loop-next-init
 loop-next-init c = tabled_start _ _ _ _ _ c.no_arguments-arguments.ensures (omega arith)
 
-pub overflow_add-earlier : goal.overflow_add-earlier
-overflow_add-earlier c = omega arith
+pub overflow_add-head : goal.overflow_add-head
+overflow_add-head c = omega arith
 
 pub returns-then-count-eq-MAX_ARGUMENTS : goal.returns-then-count-eq-MAX_ARGUMENTS
 returns-then-count-eq-MAX_ARGUMENTS c = c.refuse.ensures ∙ arguments-no _ _ _ _ _ (turn-full _ _ _ _ _ _ _ _ c.loop-next.invariant.turn c.loop-next-test.true c.if-count-eq-MAX_ARGUMENTS.true) _ _ _ _
@@ -29,22 +29,22 @@ pub overflow_add-count : goal.overflow_add-count
 overflow_add-count c = omega arith
 
 pub overflow_add-items : goal.overflow_add-items
-overflow_add-items c = let a = item-answered _ _ _ _ _ _ _ _ _ (omega arith) c.read_item.ensures c.in-Item.is in omega arith
+overflow_add-items c = let a = item-answered _ _ _ _ _ _ _ _ _ (omega arith) c.read_item.ensures c.in-Ok.is in omega arith
 
 pub loop-next-smaller : goal.loop-next-smaller
-loop-next-smaller c = let a = item-answered _ _ _ _ _ _ _ _ _ (omega arith) c.read_item.ensures c.in-Item.is in omega arith
+loop-next-smaller c = let a = item-answered _ _ _ _ _ _ _ _ _ (omega arith) c.read_item.ensures c.in-Ok.is in omega arith
 
 pub loop-next-preserved : goal.loop-next-preserved
-loop-next-preserved c = tabled-more _ _ _ _ _ _ _ _ c.loop-next.invariant c.loop-next-test.true c.if-count-eq-MAX_ARGUMENTS.false _ c.read_item.ensures _ _ _ c.in-Item.is
+loop-next-preserved c = tabled-more _ _ _ _ _ _ _ _ c.loop-next.invariant c.loop-next-test.true c.if-count-eq-MAX_ARGUMENTS.false _ c.read_item.ensures _ _ _ c.in-Ok.is
 
-pub overflow_add-earlier-in-Refused : goal.overflow_add-earlier-in-Refused
-overflow_add-earlier-in-Refused c = omega arith
+pub overflow_add-head-in-Err : goal.overflow_add-head-in-Err
+overflow_add-head-in-Err c = omega arith
 
 pub later_by-requires : goal.later_by-requires
-later_by-requires c = let a = fault-answered _ _ _ _ _ _ _ (omega arith) c.read_item.ensures c.in-Refused.is in omega arith
+later_by-requires c = let a = fault-answered _ _ _ _ _ _ _ (omega arith) c.read_item.ensures c.in-Err.is in omega arith
 
-pub returns-in-Refused : goal.returns-in-Refused
-returns-in-Refused c = c.refuse-in-Refused.ensures ∙ ap refused_signature (c.later_by.ensures ∙ later-later _ _ _) ∙ arguments-no _ _ _ _ _ (turn-no _ _ _ _ _ _ _ _ c.loop-next.invariant.turn c.loop-next-test.true c.if-count-eq-MAX_ARGUMENTS.false _ c.read_item.ensures _ c.in-Refused.is) _ _ _ _
+pub returns-in-Err : goal.returns-in-Err
+returns-in-Err c = c.refuse-in-Err.ensures ∙ ap refused_signature (c.later_by.ensures ∙ later-later _ _ _) ∙ arguments-no _ _ _ _ _ (turn-no _ _ _ _ _ _ _ _ c.loop-next.invariant.turn c.loop-next-test.true c.if-count-eq-MAX_ARGUMENTS.false _ c.read_item.ensures _ c.in-Err.is) _ _ _ _
 
 pub overflow_add-counted : goal.overflow_add-counted
 overflow_add-counted c = omega arith
