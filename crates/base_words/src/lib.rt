@@ -13,7 +13,9 @@ pub fn put(s: &mut [u8], bs: &[u8])
     requires { length bs.now ≤ length s.old }
     ensures { s.new ≡ overlay s.old bs.now }
 {
-    s[..bs.len()].copy_from_slice(bs);
+    for (i, b) in bs.iter().enumerate() {
+        s[i] = *b;
+    }
 }
 
 // n zeros at the head of s.

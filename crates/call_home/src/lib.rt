@@ -64,7 +64,8 @@ pub fn home(sig: &[u8], image: &[u8], area: &mut [u8]) -> Result<(), CallError>
     plan_planning::call_outcome(sig, g)?;
     let rules = both_abi::call_rules_of(g.convention);
     home_tested(rules, image.len(), area.len(), p.area)?;
-    first_unwidened(image, g, p)?;
+    let floats = first_unwidened(image, g, p);
+    floats?;
     put_homes(area, image, g, p);
     Ok(())
 }

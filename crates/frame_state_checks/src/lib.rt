@@ -26,7 +26,7 @@ fn frames_ok(k: FrameRules, fs: [Frame; MAX_ENTERED], depth: usize) -> bool
     requires { depth ≤ max_entered }
     ensures { result ≡ ok_frames k fs depth }
 {
-    for d in 0..depth {
+    for d in (0..depth).rev() {
         if !frame_requests::request_ok(k, fs[d]) || frame_under(k, fs, d).leaf {
             return false;
         }
@@ -66,9 +66,12 @@ fn state_ok(k: FrameRules, s: State) -> bool
         return false;
     }
     let p = stack_pointer(k, s);
+    if p < s.base + k.floor as u64 {
+        return false;
+    }
     let used = (sizes_of(k, s.frames, s.depth) + k.room) as u64;
     let end = s.base + s.size as u64;
-    s.base + k.floor as u64 <= p && used <= end && p == end - used
+    used <= end && p == end - used
 }
 
 // Refusals 23 and 16.

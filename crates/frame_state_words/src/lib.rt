@@ -22,7 +22,9 @@ fn copy(to: &mut [u64], at: usize, from: &[u64], start: usize, n: usize)
     requires { (at + n ≤ length to.old) × (start + n ≤ length from.now) }
     ensures { to.new ≡ splice to.old at (part start n from.now) }
 {
-    to[at..at + n].copy_from_slice(&from[start..start + n]);
+    for i in 0..n {
+        to[at + i] = from[start + i];
+    }
 }
 
 // The registers in the words from `at` on; of CR the low 32 bits.

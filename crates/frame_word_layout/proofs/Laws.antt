@@ -4,11 +4,10 @@ use native.Mathlib.Numerals.{add-one}
 use native.Mathlib.Omega.{arith}
 use mathlib.Core.Path.{◌≡◌, refl, sym, ap, ◌∙◌}
 use mathlib.Core.List.{List, [], ◌∷◌, ◌++◌}
-use borrow.Rule.Slice.PartMut.{put_mid, mid_of}
-use lib.ListN.{length, length-drop, get_or, take, drop, set, replicate, length-append, take-append-drop, drop_of_length-le}
+use lib.ListN.{length, get_or, drop, set, replicate, length-append, take-append-drop, drop_of_length-le}
 use lib.Seq.{drop-cons, drop-drop, set-append_left}
 use Rattle.base_words.specs.Splice.{splice, part}
-use Rattle.base_words.proofs.Splices.{length_part, overlay-is, splice-is, splice-one, splice-nothing, splice-append, splice-next, splice-whole, part-next}
+use Rattle.base_words.proofs.Splices.{length_part, splice-one, splice-nothing, splice-append, splice-next, splice-whole, part-next}
 use Rattle.base_words.proofs.Basics.{set-behind}
 use Rattle.base_conventions.specs.declared.Convention.{Convention}
 use Rattle.base_conventions.specs.Numbers.{code_of}
@@ -36,16 +35,26 @@ pub length-register-words : (r : Registers) → length r.gpr ≡ 32 → length r
 unfolding register_words
 length-register-words r g h = simp length-append (omega arith)
 
--- ---- words copied
+-- ---- word by word
 
--- n words of f from s on, copied over those of l from `at` on; j and k are n as a slice's two ends give it
-pub copied : (l f xs : List ℕ) (at s n j k : ℕ) → j ≡ n → k ≡ n → at + n ≤ length l → s + n ≤ length f → xs ≡ mid_of s j f → put_mid at k l xs ≡ splice l at (part s n f)
-copied l f xs at s n j k p q h r e =
-    let long : length (part s n f) ≡ n = length_part s n f r in
-    let room : length (part s n f) ≤ length (drop at l) = omega (arith, length-drop at l, long) in
-    let put : splice l at (part s n f) ≡ take at l ++ (part s n f ++ drop (length (part s n f)) (drop at l))
-    = splice-is l at (part s n f) ∙ ap (λ (t : List ℕ). take at l ++ t) (overlay-is (drop at l) (part s n f) room) in
-    rw (e, p, q) (sym (rw long at put))
+module _ (l f : List ℕ) (at s n i : ℕ) (h : i < n) (k : s + n ≤ length f) where
+  pub copy-turn : splice (set l (at + i) (get_or f (s + i) 0)) (at + (i + 1)) (part (s + (i + 1)) (n - (i + 1)) f) ≡ splice l (at + i) (part (s + i) (n - i) f)
+  copy-turn =
+      let a : at + (i + 1) ≡ at + i + 1 = omega arith in
+      let b : s + (i + 1) ≡ s + i + 1 = omega arith in
+      let m : n - i ≡ suc (n - (i + 1)) = omega arith in
+      rw (a, b, m, part-next (s + i) (n - (i + 1)) f (omega arith)) (splice-next l (at + i) (get_or f (s + i) 0) (part (s + i + 1) (n - (i + 1)) f))
+
+pub copy_start : (l f : List ℕ) (at s n : ℕ) → splice l (at + 0) (part (s + 0) (n - 0) f) ≡ splice l at (part s n f)
+copy_start l f at s n =
+    let a : at + 0 ≡ at = omega arith in
+    let b : s + 0 ≡ s = omega arith in
+    let m : n - 0 ≡ n = omega arith in
+    cc
+
+pub copy-end : (k : ℕ) (l f : List ℕ) (at s : ℕ) → k ≤ 0 → splice l at (part s k f) ≡ l
+copy-end zero l f at s h = splice-nothing l at
+copy-end (suc k) l f at s h = absurd (omega arith)
 
 splice-set : (l : List ℕ) (at j x : ℕ) (xs : List ℕ) → splice l (at + j) (x ∷ xs) ≡ splice (set l (at + j) x) (at + (j + 1)) xs
 splice-set l at j x xs = let e : at + (j + 1) ≡ at + j + 1 = omega arith in rw e (sym (splice-next l (at + j) x xs))

@@ -1,5 +1,5 @@
 -- An accepted call's plan is that of its reading, and so the text of a call needs no plan of one that is refused. Assumes nothing.
-use Rattle.std.proofs.Common.{◌≡◌, ℕ, zero, suc, List, Result, Ok, Err, refl, sym, ap, ◌∙◌, arith}
+use Rattle.std.proofs.Common.{◌≡◌, ℕ, zero, suc, List, Result, Ok, Err, refl, ap, arith}
 use Rattle.sig_items.specs.declared.Fault.{Fault}
 use Rattle.sig_signatures.specs.declared.SignatureRead.{SignatureRead}
 use Rattle.sig_signatures.specs.Answer.{signature_answer}

@@ -2,11 +2,11 @@
 // it was.
 #![tactic(auto)]
 
-ghost use Rattle.std.specs.Prelude.{◌≡◌, ℕ, ◌+◌, ◌^◌, ◌≤◌, ◌<◌, length};
+ghost use Rattle.std.specs.Prelude.{◌≡◌, ◌+◌, ◌^◌, ◌≤◌, ◌<◌, length};
 ghost use Rattle.base_words.specs.Splice.{overlay_whole};
 ghost use Rattle.plan_places.specs.Helpers.{ResultNumbered};
 ghost use Rattle.plan_text.specs.Writing.{Wrote};
-ghost use Rattle.plan_listing.specs.Text.{name_of, ellipsis_text, head_text, result_places_text, result_text, refusal_text, accepted_text, plan_text_by, listing_of};
+ghost use Rattle.plan_listing.specs.Text.{name_of, ellipsis_text, head_text, result_places_text, result_text, refusal_text, accepted_text, listing_of};
 ghost use Rattle.plan_plans.specs.Call.{outcome_for};
 ghost use Rattle.plan_plans.specs.Helpers.{Printable};
 ghost use Rattle.sig_signatures.specs.Read.{signature_of};
@@ -106,15 +106,29 @@ fn put_lines(text: &mut [u8], p: &Plan) -> usize
     put_result(text, next, p.result)
 }
 
-// A refused call has no lines of a plan: its plan is not looked at.
-fn put_plan(text: &mut [u8], outcome: Result<usize, Fault>, p: &Plan) -> usize
-    requires { (n : ℕ) → outcome ≡ Ok n → Printable p.now }
-    ensures { Wrote text.old text.new 0 result (plan_text_by outcome p.now) }
+// The line of a refused call, where there is room for it; its length.
+fn list_refusal(text: &mut [u8], fault: Fault) -> usize
+    ensures { (result ≡ length (refusal_text fault)) × (text.new ≡ overlay_whole text.old (refusal_text fault)) }
 {
-    match outcome {
-        Ok(_) => put_lines(text, p),
-        Err(fault) => put_refusal(text, fault),
+    let mut unused = [0u8; 1];
+    let line = put_refusal(&mut unused, fault);
+    if text.len() < line {
+        return line;
     }
+    put_refusal(text, fault)
+}
+
+// The lines of an accepted plan, where there is room for them; their length.
+fn list_plan(text: &mut [u8], p: &Plan) -> usize
+    requires { Printable p.now }
+    ensures { (result ≡ length (accepted_text p.now)) × (text.new ≡ overlay_whole text.old (accepted_text p.now)) }
+{
+    let mut unused = [0u8; 1];
+    let length = put_lines(&mut unused, p);
+    if text.len() < length {
+        return length;
+    }
+    put_lines(text, p)
 }
 
 // What a call is accepted or refused with.
@@ -128,17 +142,13 @@ fn outcome_of(s: &[u8], g: SignatureRead) -> Result<usize, Fault>
 }
 
 // The printed plan of a signature's bytes, any bytes at all, at the head of `text`; its length is returned. Where `text` is
-// too short it is left as it was.
+// too short it is left as it was. Of a refused call no plan is made.
 pub fn listing(s: &[u8], text: &mut [u8]) -> usize
     ensures { (result ≡ length (listing_of s.now)) × (text.new ≡ overlay_whole text.old (listing_of s.now)) }
 {
     let g = sig_whole::read_signature(s);
-    let outcome = outcome_of(s, g);
-    let p = plan_planning::plan_signature(g);
-    let mut unused = [0u8; 1];
-    let length = put_plan(&mut unused, outcome, &p);
-    if text.len() < length {
-        return length;
+    match outcome_of(s, g) {
+        Err(fault) => list_refusal(text, fault),
+        Ok(_) => list_plan(text, &plan_planning::plan_signature(g)),
     }
-    put_plan(text, outcome, &p)
 }

@@ -329,6 +329,20 @@ fn the_shared_library_shows_what_the_header_declares_and_nothing_else() {
     assert_eq!(shown, expected);
 }
 
+/// A program without a C library has to bring these two, as every compiler for C expects.
+#[test]
+fn the_archive_needs_memcpy_and_memset_from_outside_and_nothing_else() {
+    let archive = root().join("build/libflakuzhen.a");
+    let output = run(Command::new("nm").arg("-u").arg(archive));
+    let needed: BTreeSet<String> = String::from_utf8_lossy(&output.stdout)
+        .lines()
+        .filter_map(|line| line.trim().strip_prefix("U "))
+        .map(str::to_string)
+        .collect();
+    let expected = ["memcpy", "memset"].map(str::to_string);
+    assert_eq!(needed, BTreeSet::from(expected));
+}
+
 /// The bytes of stack that the header allows each function: lines with a number of KiB and names.
 fn stated_stack() -> BTreeMap<String, usize> {
     let header = std::fs::read_to_string(root().join("include/flakuzhen.h")).expect("the header");

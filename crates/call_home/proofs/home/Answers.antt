@@ -35,21 +35,21 @@ returns-in_err-home_tested c =
       area_after = area-kept c.args.sig.now _ c.args.image.now c.args.area.now c.from_residual-in_err-home_tested.ensures.0;
     }
 
-pub first_unwidened-requires : goal.first_unwidened-requires
-first_unwidened-requires c =
+pub first_unwidened-floats-requires : goal.first_unwidened-floats-requires
+first_unwidened-floats-requires c =
     let done = sym (tests-marked c.read_signature-g.result _ _ _ _ (rw c.call_rules_of-rules.ensures at c.home_tested.ensures)) ∙ ok-done _ _ c.in_ok-home_tested.was in
     let lent = home-passed _ _ _ _ done in
     let same = plan-same c.args.sig.now _ _ c.read_signature-g.ensures c.plan_signature-p.ensures in
     all-registered c.args.sig.now _ _ _ c.read_signature-g.ensures same lent.homes lent.image
 
-pub returns-in_err-first_unwidened : goal.returns-in_err-first_unwidened
-returns-in_err-first_unwidened c =
+pub returns-in_err-floats : goal.returns-in_err-floats
+returns-in_err-floats c =
     let same = plan-same c.args.sig.now _ c.plan_signature-p.result c.read_signature-g.ensures c.plan_signature-p.ensures in
-    let handed-on = handed_on _ c.first_unwidened.result c.in_err-first_unwidened.field-0.0 c.from_residual-in_err-first_unwidened.ensures.1 c.in_err-first_unwidened.was in record {
+    let handed-on = handed_on _ c.first_unwidened-floats.result c.in_err-floats.field-0.0 c.from_residual-in_err-floats.ensures.1 c.in_err-floats.was in record {
       value =
           handed-on
-          ∙ home-registers c.args.sig.now c.args.image.now _ _ c.plan_signature-p.result _ c.read_signature-g.ensures same (sym c.call_outcome.ensures ∙ c.in_ok-call_outcome.was) _ _ (tests-marked c.read_signature-g.result _ _ _ _ (rw c.call_rules_of-rules.ensures at c.home_tested.ensures)) (ok-passed _ _ c.in_ok-home_tested.was) c.first_unwidened.ensures;
-      area_after = area-kept c.args.sig.now _ c.args.image.now c.args.area.now c.from_residual-in_err-first_unwidened.ensures.0;
+          ∙ home-registers c.args.sig.now c.args.image.now _ _ c.plan_signature-p.result _ c.read_signature-g.ensures same (sym c.call_outcome.ensures ∙ c.in_ok-call_outcome.was) _ _ (tests-marked c.read_signature-g.result _ _ _ _ (rw c.call_rules_of-rules.ensures at c.home_tested.ensures)) (ok-passed _ _ c.in_ok-home_tested.was) c.first_unwidened-floats.ensures;
+      area_after = area-kept c.args.sig.now _ c.args.image.now c.args.area.now c.from_residual-in_err-floats.ensures.0;
     }
 
 pub put_homes-requires : goal.put_homes-requires
@@ -62,7 +62,7 @@ put_homes-requires c =
 pub returns : goal.returns
 returns c =
     let same = plan-same c.args.sig.now _ c.plan_signature-p.result c.read_signature-g.ensures c.plan_signature-p.ensures in
-    let done = ok-done _ _ c.in_ok-first_unwidened.was in record {
-      value = home-registers c.args.sig.now c.args.image.now _ _ c.plan_signature-p.result _ c.read_signature-g.ensures same (sym c.call_outcome.ensures ∙ c.in_ok-call_outcome.was) _ call_done (tests-marked c.read_signature-g.result _ _ _ _ (rw c.call_rules_of-rules.ensures at c.home_tested.ensures)) (ok-passed _ _ c.in_ok-home_tested.was) (sym done ∙ c.first_unwidened.ensures);
+    let done = ok-done _ _ c.in_ok-floats.was in record {
+      value = home-registers c.args.sig.now c.args.image.now _ _ c.plan_signature-p.result _ c.read_signature-g.ensures same (sym c.call_outcome.ensures ∙ c.in_ok-call_outcome.was) _ call_done (tests-marked c.read_signature-g.result _ _ _ _ (rw c.call_rules_of-rules.ensures at c.home_tested.ensures)) (ok-passed _ _ c.in_ok-home_tested.was) (sym done ∙ c.first_unwidened-floats.ensures);
       area_after = area-homed c.args.sig.now c.args.image.now c.args.area.now _ _ c.plan_signature-p.result c.read_signature-g.ensures same c.put_homes.ensures;
     }
